@@ -1,0 +1,3 @@
+pub mod AvroSpecification
+pub mod Astray
+pub mod Held

@@ -1,0 +1,26 @@
+-- Notation that every definition shares, and results that may be a refusal.
+use Prim.Native.Nat.{ℕ}
+use mathlib.Core.Bool.{Bool, true, false}
+use mathlib.Core.Option.{Option, none, some}
+
+infixr 1 if_then_else_
+abbrev pub if_then_else_ {ℓ} : {A : Type ℓ} → Bool → A → A → A
+if true then a else b = a
+if false then a else b = b
+
+unfoldable pub isSome : {A : Type 0} → Option A → Bool
+isSome none = false
+isSome (some a) = true
+
+-- a result, or the number of what stopped it (document 01, "What stops a record")
+pub data Result (A : Type 0) : Type 0 where
+  ok : A → Result A
+  no : ℕ → Result A
+
+unfoldable pub after : {A B : Type 0} → Result A → (A → Result B) → Result B
+after (ok a) f = f a
+after (no n) f = no n
+
+unfoldable pub accepted : {A : Type 0} → Result A → Bool
+accepted (ok a) = true
+accepted (no n) = false

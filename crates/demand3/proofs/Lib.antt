@@ -1,0 +1,4 @@
+pub mod Induction
+pub mod Alike
+pub mod Settle
+pub mod Claims

@@ -1,0 +1,5 @@
+pub mod RoundTrip
+pub mod ReadHeld
+pub mod ReadBack
+pub mod Inside
+pub mod Peel

@@ -1,0 +1,37 @@
+-- The starred lines of document 01, "Finishes to check by", as one table.
+use Prim.Native.Nat.{ℕ}
+use Prim.Native.String.{String}
+use mathlib.Core.List.{List, [], _∷_}
+use mathlib.Core.Option.{Option·getD}
+use Rattle.base.specs.Base.{Result, ok, no}
+use Rattle.text.specs.Text.{ascii}
+use Rattle.uuid.specs.Uuid.{hexBytes}
+
+-- a schema, a value, and the result or the number of the refusal
+pub record Finish : Type 0 where
+  pub schema : List ℕ
+  pub value : List ℕ
+  pub expected : Result (List ℕ)
+
+-- the bytes of a hexadecimal literal
+abbrev pub hex : String → List ℕ
+hex t = Option·getD (hexBytes (ascii t)) []
+
+abbrev pub _with_is_ : String → String → Result (List ℕ) → Finish
+_with_is_ s v e = record { schema = hex s; value = hex v; expected = e }
+
+infix 30 _with_is_
+unfoldable pub starred : List Finish
+starred =
+    ("02" with "03000000007fffffff" is ok (hex "027fffffff"))
+    ∷ ("02" with "030000000080000000" is no 7)
+    ∷ ("04" with "0201000001" is ok (hex "044b800000"))
+    ∷ ("04" with "0201000003" is ok (hex "044b800002"))
+    ∷ ("05" with "030020000000000001" is ok (hex "054340000000000000"))
+    ∷ ("05" with "0700034e614e" is ok (hex "057ff8000000000000"))
+    ∷ ("0d0004" with "0700026162" is ok (hex "0d00026162"))
+    ∷ ("0d0004" with "0600026162" is no 10)
+    ∷ ("0a0002000500020000000500010000" with "00" is ok (hex "0a0000000000"))
+    ∷ ("0a0002000500020000000500010000" with "0200000005" is ok (hex "0a00000001054014000000000000"))
+    ∷ ("02" with "0a000000000a000000000200000005" is no 6)
+    ∷ []

@@ -1,0 +1,1 @@
+// Lines of program resolve: definitions.

@@ -1,0 +1,2 @@
+pub mod HeldLeaves
+pub mod Astray

@@ -1,0 +1,6 @@
+pub mod Bytes
+pub mod Ascii
+pub mod CodePoints
+pub mod Walk
+pub mod Grammar
+pub mod Vectors
