@@ -315,3 +315,9 @@ schema-got (suc d) (k ∷ s) h = schema-content-got (readSchema d) d (λ t b. sc
 pub schema-held : (s : List ℕ) (t : Schema) → T (allBytes s) → decodeSchema s ≡ some t → HeldSchema t 16
 unfolding decodeSchema
 schema-held s t h e = subst (λ (o : Option Schema). Whole (λ t. HeldSchema t 16) o) e (whole-got _ (readSchema 16) s (schema-got 16 s h))
+
+pub value-part-held : (d : ℕ) (s : List ℕ) (v : Value) (r : List ℕ) → T (allBytes s) → readValue d s ≡ some (v, r) → T (held v d)
+value-part-held d s v r h e = subst (λ (m : Read Value). Got (λ v. T (held v d)) m) e (value-got d s h) .0
+
+pub schema-part-held : (d : ℕ) (s : List ℕ) (t : Schema) (r : List ℕ) → T (allBytes s) → readSchema d s ≡ some (t, r) → HeldSchema t d
+schema-part-held d s t r h e = subst (λ (m : Read Schema). Got (λ t. HeldSchema t d) m) e (schema-got d s h) .0

@@ -203,7 +203,7 @@ entry-back node n v s r h e = rw (append-assoc, readText-back n (s ++ r) h, e)
 mutual
   unfolding held countItems countEntries encodeValue readValue readMany table itemList entryList
 
-  value-back : (v : Value) (d : ℕ) → T (held v d) → (r : List ℕ) → readValue d (encodeValue v ++ r) ≡ some (v, r)
+  pub value-back : (v : Value) (d : ℕ) → T (held v d) → (r : List ℕ) → readValue d (encodeValue v ++ r) ≡ some (v, r)
   value-back (Value.Scalar k n) zero h r = absurd h
   value-back (Value.Scalar k n) (suc d) h r = scalar-back (readValue d) k (content k) n r h
   value-back (Value.Octets k b) zero h r = absurd h

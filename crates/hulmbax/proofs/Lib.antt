@@ -1,2 +1,4 @@
 pub mod Finishes
 pub mod Computed
+pub mod EntryLaws
+pub mod ClearLaws

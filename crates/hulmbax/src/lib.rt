@@ -1,1 +1,109 @@
-// The public entry: its definitions.
+// The public entry: a record brought to a reader schema.
+use buffer::Answer;
+use frame::Verdict;
+ghost use mathlib.Core.Path.{_≡_};
+ghost use mathlib.Core.List.{_++_};
+ghost use Prim.Native.Nat.{_+_, _-_, _≤_};
+ghost use lib.ListN.{drop, length, replicate};
+ghost use Rattle.base.specs.Base.{after};
+ghost use Rattle.frame.specs.ValueFrame.{decodeValue, encodeValue};
+ghost use Rattle.frame.specs.SchemaFrame.{decodeSchema};
+ghost use Rattle.avro.specs.Resolve;
+ghost use Rattle.hulmbax.specs.Answer.{answer, bufferAfter, checkedSchema, checkedValue, workspaceAfter, written};
+ghost use Rattle.hulmbax.specs.Entry.{Passed, resolvedOf, stopOf};
+
+// A result of so many bytes, or the number of what stopped the record.
+pub enum Resolved {
+    Accepted(usize),
+    Refused(u8),
+}
+
+// Fills a slice with zeros.
+fn clear(b: &mut [u8])
+    ensures { λ _. ⌜ now (b .exit) ≡ replicate (length (now (b .entry))) 0 ⌝ }
+{
+    let mut i: usize = 0;
+    while i < b.len() {
+        b[i] = 0;
+        i += 1;
+    }
+}
+
+// What stops the schema: 2, 3 or 4, or 0.
+fn schema_stop(schema: &[u8], work: &mut [u8]) -> u8
+    ensures { λ r. ⌜ r ≡ stopOf (checkedSchema (decodeSchema (now (schema .entry)))) ⌝ }
+{
+    match schema::schema_frame(schema) {
+        Verdict::NoFrame => 2,
+        Verdict::Unsound => 3,
+        Verdict::Sound => {
+            if resolution::defaults::defaults_short(schema, work, 16) {
+                0
+            } else {
+                4
+            }
+        }
+    }
+}
+
+// What stops the record before it is resolved: 5, or 0.
+fn record_stop(record: &[u8]) -> u8
+    ensures { λ r. ⌜ r ≡ stopOf (checkedValue (decodeValue (now («record» .entry)))) ⌝ }
+{
+    match value::value_frame(record) {
+        Verdict::NoFrame => 5,
+        Verdict::Unsound => 5,
+        Verdict::Sound => 0,
+    }
+}
+
+// Resolves frames that passed their checks into the work slice, and hands over a result that fits.
+fn hand_over(schema: &[u8], record: &[u8], result: &mut [u8], work: &mut [u8]) -> Resolved
+    requires { ⌜ Passed (now schema) (now «record») × (length (now work) ≡ 65536) ⌝ }
+    ensures answer { λ r. ⌜ r ≡ resolvedOf (after (checkedSchema (decodeSchema (now (schema .entry)))) (λ t. after (checkedValue (decodeValue (now («record» .entry)))) (λ v. after (Resolve.resolve t v) (λ x. written (length (now (result .entry))) (encodeValue x))))) ⌝ }
+    ensures contents { λ _. ⌜ now (result .exit) ≡ bufferAfter (after (checkedSchema (decodeSchema (now (schema .entry)))) (λ t. after (checkedValue (decodeValue (now («record» .entry)))) (λ v. after (Resolve.resolve t v) (λ x. written (length (now (result .entry))) (encodeValue x))))) (now (result .entry)) ⌝ }
+{
+    match resolution::resolve::resolve_node(schema, record, work, 16, 16) {
+        Answer::Accepted(n) => {
+            if 65535 < n {
+                return Resolved::Refused(18);
+            }
+            if result.len() < n {
+                return Resolved::Refused(18);
+            }
+            buffer::copy(result, &work[..n]);
+            Resolved::Accepted(n)
+        }
+        Answer::Refused(e) => Resolved::Refused(e),
+    }
+}
+
+// All but the workspace, of which the first 65,536 bytes are lent.
+fn resolve_in(schema: &[u8], record: &[u8], result: &mut [u8], work: &mut [u8]) -> Resolved
+    requires { ⌜ length (now work) ≡ 65536 ⌝ }
+    ensures answer { λ r. ⌜ r ≡ resolvedOf (answer (now (schema .entry)) (now («record» .entry)) (length (now (result .entry))) 65536) ⌝ }
+    ensures contents { λ _. ⌜ now (result .exit) ≡ bufferAfter (answer (now (schema .entry)) (now («record» .entry)) (length (now (result .entry))) 65536) (now (result .entry)) ⌝ }
+{
+    let s = schema_stop(schema, work);
+    if s != 0 {
+        return Resolved::Refused(s);
+    }
+    let v = record_stop(record);
+    if v != 0 {
+        return Resolved::Refused(v);
+    }
+    hand_over(schema, record, result, work)
+}
+
+pub fn resolve(schema: &[u8], record: &[u8], result: &mut [u8], workspace: &mut [u8]) -> Resolved
+    ensures answer { λ r. ⌜ r ≡ resolvedOf (answer (now (schema .entry)) (now («record» .entry)) (length (now (result .entry))) (length (now (workspace .entry)))) ⌝ }
+    ensures contents { λ _. ⌜ now (result .exit) ≡ bufferAfter (answer (now (schema .entry)) (now («record» .entry)) (length (now (result .entry))) (length (now (workspace .entry)))) (now (result .entry)) ⌝ }
+    ensures cleared { λ _. ⌜ now (workspace .exit) ≡ workspaceAfter (answer (now (schema .entry)) (now («record» .entry)) (length (now (result .entry))) (length (now (workspace .entry)))) (now (workspace .entry)) ⌝ }
+{
+    if workspace.len() < 65536 {
+        return Resolved::Refused(1);
+    }
+    let r = resolve_in(schema, record, result, &mut workspace[..65536]);
+    clear(&mut workspace[..65536]);
+    r
+}

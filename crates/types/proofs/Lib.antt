@@ -1,2 +1,10 @@
 pub mod HeldLeaves
 pub mod Astray
+pub mod NodeLaws
+pub mod ScalarLaws
+pub mod PartLaws
+pub mod OctetLaws
+pub mod DecimalLaws
+pub mod SymbolLaws
+pub mod EnumLaws
+pub mod Refusals

@@ -59,7 +59,7 @@ pub hexDigit-none : (c r : ℕ) → r ≡ orSixteen (hexDigit c) → 16 ≤ r �
 hexDigit-none c r e h = none-of (hexDigit c) r (small-hexDigit c) e h
 
 -- ---- pairs
-drop-two : (d : List ℕ) (j : ℕ) → j + 2 ≤ length d → drop j d ≡ getD d j 0 ∷ getD d (j + 1) 0 ∷ drop (j + 2) d
+pub drop-two : (d : List ℕ) (j : ℕ) → j + 2 ≤ length d → drop j d ≡ getD d j 0 ∷ getD d (j + 1) 0 ∷ drop (j + 2) d
 drop-two d j h =
     let e1 : j + 1 ≡ suc j = omega arith in
     let e2 : j + 2 ≡ suc (suc j) = omega arith in

@@ -1,0 +1,159 @@
+-- The parts of a field that was read, one behind the other, and the places where they begin. Assumes nothing.
+use Prim.Native.Nat.{ℕ, _+_, _≤_, _<_}
+use mathlib.Core.Path.{_≡_, refl, sym, ap, _∙_}
+use mathlib.Core.List.{List}
+use mathlib.Core.Option.{Option, none, some}
+use mathlib.Core.Bool.{Bool, true, false}
+use native.Mathlib.Omega.{arith}
+use lib.Dec.{leb, eqb}
+use lib.ListN.{length, drop, getD, length-drop}
+use lib.Seq.{drop-drop, getD-drop}
+use borrow.Author.Tests.{eq-eqb, ne-eqb, leb-true, leb-false}
+use Rattle.base.specs.Base.{if_then_else_}
+use Rattle.text.specs.Text.{Text}
+use Rattle.text.specs.Read.{Read, _>>=_, readCounted, readText}
+use Rattle.text.specs.Measured.{Reads}
+use Rattle.frame.specs.Tree.{Value, Schema}
+use Rattle.frame.specs.Readers.{readFlag, readOption}
+use Rattle.frame.specs.ValueFrame.{readValue}
+use Rattle.frame.specs.SchemaFrame.{readField, readSchema}
+use Rattle.frame.specs.Checks.{Spans}
+use Rattle.value.proofs.ReaderLaws.{bind-some, reads-some, not-reads, reads-first, reads-flag, flag-some, flag-large, spans-le}
+use Rattle.schema.proofs.Reading.{read-what, read-rest}
+use Rattle.schema.proofs.Seeking.{bind-inv, text-counted}
+use Rattle.field.specs.Parts.{DefaultAt, FieldParts}
+
+-- ---- a flag, and what stands behind it
+
+flag-is : (t : List ℕ) → Reads (readFlag t) → readFlag t ≡ some (getD t 0 0, drop 1 t)
+flag-is t r = go (leb (getD t 0 0) 1) refl
+  where
+    go : (b : Bool) → leb (getD t 0 0) 1 ≡ b → readFlag t ≡ some (getD t 0 0, drop 1 t)
+    go true e = flag-some t (reads-flag t r) (leb-true _ _ e)
+    go false e = absurd (not-reads _ (flag-large t (reads-flag t r) (leb-false _ _ e)) r)
+
+module _ {A : Type 0} (p : List ℕ → Read A) (t : List ℕ) (d : Option A) (u : List ℕ) (e : readOption p t ≡ some (d, u)) where
+  option-flag : Reads (readFlag t)
+  unfolding readOption
+  option-flag = reads-first (readFlag t) _ (reads-some d u e)
+
+  option-long : 1 ≤ length t
+  option-long = reads-flag t option-flag
+
+  option-open : readOption p t ≡ (if eqb (getD t 0 0) 0 then some (none, drop 1 t) else (p (drop 1 t) >>= (λ y. some (some (y .0), y .1))))
+  unfolding readOption
+  option-open = bind-some (readFlag t) _ (getD t 0 0) (drop 1 t) (flag-is t option-flag)
+
+  -- 00: nothing
+  option-zero : getD t 0 0 ≡ 0 → _≡_ {A = Read (Option A)} (some (none, drop 1 t)) (some (d, u))
+  option-zero z = sym (option-open ∙ rw (eq-eqb (getD t 0 0) 0 z) refl) ∙ e
+
+  -- 01: a thing of p
+  option-one : (getD t 0 0 ≡ 0 → ⊥) → (a : A) × ((p (drop 1 t) ≡ some (a, u)) × (d ≡ some a))
+  option-one z =
+      let w = bind-inv (p (drop 1 t)) (λ y. some (some (y .0), y .1)) (d, u) (sym (option-open ∙ rw (ne-eqb (getD t 0 0) 0 z) refl) ∙ e) in
+      (w .0 .0, (w .1 .0 ∙ ap (λ v. some (w .0 .0, v)) (read-rest (w .1 .1)), sym (read-what (w .1 .1))))
+
+-- ---- the parts of a field
+
+record Parted (node : List ℕ → Read Schema) (s : List ℕ) : Type 0 where
+  pub name : Text
+  pub default : Option Value
+  pub tree : Schema
+  pub rest : List ℕ
+  pub flagged : List ℕ
+  pub behind : List ℕ
+  pub whole : readField node s ≡ some ((name, default, tree), rest)
+  pub first : readCounted s ≡ some (name, flagged)
+  pub second : readOption (readValue 16) flagged ≡ some (default, behind)
+  pub third : node behind ≡ some (tree, rest)
+
+parted : (node : List ℕ → Read Schema) (s : List ℕ) → Reads (readField node s) → Parted node s
+unfolding readField Reads
+parted node s r =
+    let w = bind-inv (readText s) _ (r .0, r .1 .0) (r .1 .1) in
+    let v = bind-inv (readOption (readValue 16) (w .0 .1)) _ (r .0, r .1 .0) (w .1 .1) in
+    let k = bind-inv (node (v .0 .1)) _ (r .0, r .1 .0) (v .1 .1) in
+    record {
+      name = w .0 .0;
+      default = v .0 .0;
+      tree = k .0 .0;
+      rest = k .0 .1;
+      flagged = w .0 .1;
+      behind = v .0 .1;
+      whole = r .1 .1 ∙ sym (k .1 .1);
+      first = text-counted s (w .0 .0) (w .0 .1) (w .1 .0);
+      second = v .1 .0;
+      third = k .1 .0;
+    }
+
+pub name-reads : (node : List ℕ → Read Schema) (s : List ℕ) → Reads (readField node s) → Reads (readCounted s)
+name-reads node s r = let q = parted node s r in reads-some (q .name) (q .flagged) (q .first)
+
+-- ---- where they begin: the flag stands at n
+
+module _ (depth : ℕ) (s : List ℕ) (r : Reads (readField (readSchema depth) s)) (name : Text) (n : ℕ) (g : readCounted s ≡ some (name, drop n s)) where
+  field : Parted (readSchema depth) s
+  field = parted (readSchema depth) s r
+
+  second-at : readOption (readValue 16) (drop n s) ≡ some (field .default, field .behind)
+  second-at = ap (readOption (readValue 16)) (sym (read-rest (sym (field .first) ∙ g))) ∙ field .second
+
+  pub flag-inside : n < length s
+  flag-inside = omega (arith, option-long (readValue 16) (drop n s) _ _ second-at, length-drop n s)
+
+  pub behind-inside : n + 1 ≤ length s
+  behind-inside = omega (arith, flag-inside)
+
+  flag-byte : getD (drop n s) 0 0 ≡ getD s n 0
+  flag-byte = getD-drop n s 0 0 ∙ ap (λ k. getD s k 0) (omega arith)
+
+  -- 00: the schema stands behind the flag
+  module _ (z : getD s n 0 ≡ 0) where
+    no-default : _≡_ {A = Read (Option Value)} (some (none, drop 1 (drop n s))) (some (field .default, field .behind))
+    no-default = option-zero (readValue 16) (drop n s) _ _ second-at (flag-byte ∙ z)
+
+    pub parts-none : (at : ℕ) → FieldParts depth s (record { default = false; «default_at» = at; «schema_at» = n + 1 })
+    unfolding DefaultAt
+    parts-none at = record {
+      name = field .name;
+      default = none;
+      tree = field .tree;
+      rest = field .rest;
+      reads = field .whole ∙ ap (λ d. some ((field .name, d, field .tree), field .rest)) (sym (read-what no-default));
+      default-at = tt;
+      inside = behind-inside;
+      schema-at = ap (readSchema depth) (sym (drop-drop 1 n s) ∙ read-rest no-default) ∙ field .third;
+    }
+
+  -- 01: the default stands behind the flag, and the schema behind the default
+  module _ (z : getD s n 0 ≡ 0 → ⊥) where
+    a-default : (a : Value) × ((readValue 16 (drop 1 (drop n s)) ≡ some (a, field .behind)) × (field .default ≡ some a))
+    a-default = option-one (readValue 16) (drop n s) _ _ second-at (λ e. z (sym flag-byte ∙ e))
+
+    default-is : readValue 16 (drop (n + 1) s) ≡ some (a-default .0, field .behind)
+    default-is = ap (readValue 16) (sym (drop-drop 1 n s)) ∙ a-default .1 .0
+
+    pub default-reads : Reads (readValue 16 (drop (n + 1) s))
+    default-reads = reads-some (a-default .0) (field .behind) default-is
+
+    module _ (m : ℕ) (w : Spans (readValue 16 (drop (n + 1) s)) (drop (n + 1) s) m) where
+      pub schema-inside : n + 1 + m ≤ length s
+      schema-inside = omega (arith, spans-le _ _ m w, length-drop (n + 1) s, behind-inside)
+
+      behind-is : drop (n + 1 + m) s ≡ field .behind
+      unfolding Spans
+      behind-is = sym (drop-drop m (n + 1) s) ∙ read-rest (sym (w .1 .1) ∙ default-is)
+
+      pub parts-some : FieldParts depth s (record { default = true; «default_at» = n + 1; «schema_at» = n + 1 + m })
+      unfolding DefaultAt
+      parts-some = record {
+        name = field .name;
+        default = some (a-default .0);
+        tree = field .tree;
+        rest = field .rest;
+        reads = field .whole ∙ ap (λ d. some ((field .name, d, field .tree), field .rest)) (a-default .1 .1);
+        default-at = (behind-inside, (field .behind, default-is));
+        inside = schema-inside;
+        schema-at = ap (readSchema depth) behind-is ∙ field .third;
+      }

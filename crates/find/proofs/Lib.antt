@@ -1,0 +1,2 @@
+pub mod PeelLaws
+pub mod FindLaws

@@ -1,0 +1,82 @@
+// Ways into a part that is known to hold a value: past its Union, past an entry, and to the value under a name. Nothing is
+// checked again.
+ghost use mathlib.Core.Path.{_≡_};
+ghost use Prim.Native.Nat.{_-_, _≤_};
+ghost use lib.ListN.{length, drop};
+ghost use Rattle.text.specs.Measured.{Reads};
+ghost use Rattle.frame.specs.ValueFrame.{readEntry, readValue};
+ghost use Rattle.frame.specs.Checks.{Spans};
+ghost use Rattle.find.specs.Find.{peelRead, Keyed, Located, entryUnder};
+ghost use Rattle.find.specs.Latest;
+
+// Where a value without its one Union starts, and how deep it may be.
+pub struct Peeled {
+    pub at: usize,
+    pub depth: usize,
+}
+
+pub fn peel(v: &[u8], depth: usize) -> Peeled
+    requires { ⌜ Reads (readValue depth (now v)) ⌝ }
+    ensures { λ r. ⌜ (r .at ≤ length (now (v .entry))) × (readValue (r .depth) (drop (r .at) (now (v .entry))) ≡ peelRead (readValue depth (now (v .entry)))) ⌝ }
+{
+    if v[0] == 0x0a {
+        return Peeled {
+            at: 5,
+            depth: depth - 1,
+        };
+    }
+    Peeled { at: 0, depth }
+}
+
+// The length of a map's or record's entry that is known to be there.
+pub fn entry_len(s: &[u8], depth: usize) -> usize
+    requires { ⌜ Reads (readEntry (readValue depth) (now s)) ⌝ }
+    ensures { λ r. ⌜ Spans (readEntry (readValue depth) (now (s .entry))) (now (s .entry)) r ⌝ }
+{
+    let k = 2 + (number::read2(s, 0) as usize);
+    k + value::value_len(&s[k..], depth)
+}
+
+// Where a value stands.
+pub enum Found {
+    At(usize),
+    Nothing,
+}
+
+// The value at a position, if its name is the one looked for.
+fn hit(named: bool, at: usize) -> Found
+    ensures { λ r. ⌜ r ≡ Latest.hit named at ⌝ }
+{
+    if named {
+        return Found::At(at);
+    }
+    Found::Nothing
+}
+
+// The later of two finds counts.
+fn later(before: Found, after: Found) -> Found
+    ensures { λ r. ⌜ r ≡ Latest.later before after ⌝ }
+{
+    match after {
+        Found::At(p) => Found::At(p),
+        Found::Nothing => before,
+    }
+}
+
+// The last value under a name in a Record or a Map, whose contents are alike: a count and as many entries.
+pub fn find_last(v: &[u8], name: &[u8], depth: usize) -> Found
+    requires { ⌜ Reads (readValue depth (now v)) × Keyed (now v) ⌝ }
+    ensures { λ r. ⌜ Located (entryUnder (now (name .entry)) (readValue depth (now (v .entry)))) (depth - 1) (now (v .entry)) r ⌝ }
+{
+    let mut left = number::read2(v, 1);
+    let mut at: usize = 3;
+    let mut found = Found::Nothing;
+    while 0 < left {
+        let t = text::content(&v[at..]);
+        at += 2 + t.len();
+        found = later(found, hit(text::same(t, name), at));
+        at += value::value_len(&v[at..], depth - 1);
+        left -= 1;
+    }
+    found
+}

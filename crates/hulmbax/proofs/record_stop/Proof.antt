@@ -1,0 +1,38 @@
+use mathlib.Core.Path.{sym, _∙_}
+use Rattle.hulmbax.proofs.EntryLaws.{stop-no-value, stop-unsound-value, stop-value}
+use borrow.Author.Needs.{needs}
+use Rattle.hulmbax.proofs.record_stop.Statement.{statement}
+use Rattle.hulmbax.proofs.record_stop.Tie as tie
+use Rattle.hulmbax.proofs.record_stop.Reads as reads
+use Rattle.hulmbax.proofs.record_stop.Lts as lts
+use Rattle.value.proofs.value_frame.Reads as value-frame-reads
+
+-- src/lib.rt:55:11
+value-frame-requires : tie.Need-value-frame-requires
+value-frame-requires c κs = search needs
+
+-- src/lib.rt:56:29
+enum-told : tie.Need-enum-told
+enum-told c = search needs
+
+-- src/lib.rt:57:29
+enum-told-2 : tie.Need-enum-told-2
+enum-told-2 c = search needs
+
+-- src/lib.rt:58:27
+enum-told-3 : tie.Need-enum-told-3
+enum-told-3 c = search needs
+
+returns : tie.Need-returns
+returns c = stop-no-value (c .before .before .before .before .args .«record» .now) (sym (c .before .before .value-frame .ensures) ∙ c .enum-told .given .1)
+
+returns-2 : tie.Need-returns-2
+returns-2 c = stop-unsound-value (c .before .before .before .before .args .«record» .now) (sym (c .before .before .value-frame .ensures) ∙ c .enum-told2 .given .1)
+
+returns-3 : tie.Need-returns-3
+returns-3 c = stop-value (c .before .before .before .before .args .«record» .now) (sym (c .before .before .value-frame .ensures) ∙ c .enum-told3 .given .1)
+
+pub record-stop-spec : {M : Type 1} → statement M
+record-stop-spec =
+    tie.close
+    (tie.spec value-frame-requires enum-told enum-told-2 enum-told-3 returns returns-2 returns-3)

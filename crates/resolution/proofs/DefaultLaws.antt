@@ -1,0 +1,269 @@
+-- What a default becomes in the first variant of its union, and whether that is short, at each way of the code.
+use Prim.Native.Nat.{ℕ, _-_, _≤_, _<_, min}
+use mathlib.Core.Path.{_≡_, refl, sym, ap, _∙_, subst}
+use mathlib.Core.List.{List, []}
+use mathlib.Core.Option.{Option, none, some}
+use mathlib.Core.Bool.{Bool, true, false, _&&_, _||_, not}
+use native.Mathlib.Omega.{arith}
+use lib.Dec.{T, leb, eqb}
+use lib.ListN.{length, getD, drop, length-drop}
+use lib.Seq.{getD-drop}
+use lib.Ieee.Fits.{and-l, and-r}
+use borrow.Author.Tests.{le-leb, lt-leb, leb-true, leb-false, eq-eqb, ne-eqb}
+use Rattle.base.specs.Base.{Result, ok, no, after}
+use Rattle.number.specs.Number.{numberAt, bytesOf}
+use Rattle.text.specs.Read.{Read}
+use Rattle.frame.specs.Tree.{Value, Schema, Variants, variant, is, kindOf, peel, schemaKind}
+use Rattle.frame.specs.ValueFrame.{table, readValue, encodeValue, writeScalar}
+use Rattle.frame.specs.SchemaFrame.{variantsOf, readField, readSchema}
+use Rattle.frame.specs.Sound.{schemaSound, countVariants, defaultAllowed, defaultKinds, defaultScalar, keysRise}
+use Rattle.types.specs.Types.{Outcome}
+use Rattle.types.specs.Contract.{encoded}
+use Rattle.buffer.specs.Built.{Built, Wrote}
+use Rattle.buffer.specs.declared.Answer.the-variants.{Accepted, Refused}
+use Rattle.avro.specs.Resolve.{resolve, startDefault, first}
+use Rattle.avro.specs.Defaults.{defaultsShort, variantDefaultsShort, shortDefault, shortStart}
+use Rattle.field.specs.Parts.{FieldParts, DefaultAt}
+use Rattle.resolution.specs.Contract.{Ready, onBoth, nodeBytes}
+use Rattle.resolution.specs.Shortness.{SoundRead, testRead, fieldSound, fieldShort}
+use Rattle.field.specs.declared.FieldAt.{FieldAt}
+use Rattle.resolution.proofs.ReadParts.{reads-some, schema-there, schema-kind, many-zero}
+use Rattle.resolution.proofs.SoundParts.{same-read, test-some, short-ready, many-first, Parts, parts, union-sound, variant-sound}
+
+-- ---- the first variant of a union
+
+record FirstVariant (d : ℕ) (s : List ℕ) (t : Schema) : Type 0 where
+  head : Schema
+  behind : List ℕ
+  others : Variants
+  kinds : List (ℕ × ℕ)
+  named : List ℕ
+  reads : readSchema (d - 1) (drop 3 s) ≡ some (head, behind)
+  are : t ≡ Schema.Union (variant head others) kinds named
+
+first-of : (d : ℕ) (s : List ℕ) (t : Schema) (r : List ℕ) → readSchema d s ≡ some (t, r) → getD s 0 0 ≡ 10 → T (schemaSound t) → FirstVariant d s t
+unfolding variantsOf countVariants
+first-of d s t r e k h =
+    let p = parts d s t r e k in
+    go p (union-sound (variantsOf (p .variants)) (p .kinds) (p .named) (subst (λ u. T (schemaSound u)) (p .are) h) .0) (leb 1 (numberAt s 1 2)) refl
+  where
+    go : (p : Parts d s t) → 0 < countVariants (variantsOf (p .variants)) → (b : Bool) → leb 1 (numberAt s 1 2) ≡ b → FirstVariant d s t
+    go p c true q =
+        let f = many-first (readSchema (d - 1)) (numberAt s 1 2) (drop 3 s) (p .variants) (p .tail) (p .reads) (leb-true 1 (numberAt s 1 2) q) in
+        record { head = f .item; behind = f .tail; others = variantsOf (f .others); kinds = p .kinds; named = p .named; reads = f .reads; are = p .are ∙ ap (λ vs. Schema.Union (variantsOf vs) (p .kinds) (p .named)) (f .cons) }
+    go p c false q =
+        let z : p .variants ≡ [] = same-read _ (p .variants) [] (p .tail) (drop 3 s) (p .reads) (many-zero (readSchema (d - 1)) (numberAt s 1 2) (drop 3 s) (omega (arith, leb-false 1 (numberAt s 1 2) q))) in
+        absurd (omega (arith, c, ap (λ vs. countVariants (variantsOf vs)) z))
+
+module _ (d : ℕ) (s : List ℕ) (w : Ready d s) where
+  pub ready-there : (0 < d) × (0 < length s)
+  ready-there = schema-there d s (reads-some (w .tree) (w .rest) (w .reads))
+
+  module _ (e : getD s 0 0 ≡ 10) where
+    found : FirstVariant d s (w .tree)
+    found = first-of d s (w .tree) (w .rest) (w .reads) e (w .sound)
+
+    pub first-long : 4 ≤ length s
+    first-long =
+        let h = schema-there (d - 1) (drop 3 s) (reads-some (found .head) (found .behind) (found .reads)) in
+        omega (arith, h .1, length-drop 3 s)
+
+    pub first-ready : Ready (d - 1) (drop 3 s)
+    unfolding defaultsShort
+    first-ready =
+        let f = found in
+        let h = union-sound (variant (f .head) (f .others)) (f .kinds) (f .named) (subst (λ t. T (schemaSound t)) (f .are) (w .sound)) .1 in
+        let k : T (defaultsShort (f .head) && variantDefaultsShort (f .others)) = subst (λ t. T (defaultsShort t)) (f .are) (w .short) in
+        record {
+          tree = f .head;
+          rest = f .behind;
+          reads = f .reads;
+          sound = variant-sound (f .head) (f .others) h .0;
+          short = and-l (defaultsShort (f .head)) (variantDefaultsShort (f .others)) k;
+        }
+
+    first-kind : schemaKind (found .head) ≡ getD s 3 0
+    first-kind = schema-kind (d - 1) (drop 3 s) (found .head) (found .behind) (found .reads) ∙ getD-drop 3 s 0 0
+
+-- ---- what a default becomes
+
+both-some : {A B C : Type 0} (f : A → B → Result C) (x : Read A) (y : Read B) (a : A) (b : B) (r u : List ℕ) → x ≡ some (a, r) → y ≡ some (b, u) → onBoth f x y ≡ f a b
+unfolding onBoth
+both-some f x y a b r u e g = ap (λ z. onBoth f z y) e ∙ ap (onBoth f (some (a, r))) g
+
+-- a default that is allowed is no Union
+no-union : (v : Value) → T (defaultKinds v) → is 10 v ≡ false
+unfolding defaultKinds defaultScalar kindOf
+no-union (Value.Scalar k n) h = ne-eqb k 10 (λ e. subst (λ j. T (defaultScalar j n)) e h)
+no-union (Value.Octets k b) h = ne-eqb k 10 (λ e. subst (λ j. T (eqb j 7)) e h)
+no-union (Value.Enum i b) h = absurd h
+no-union (Value.Array vs) h = refl
+no-union (Value.Map es) h = refl
+no-union (Value.Record es) h = absurd h
+no-union (Value.Union i v) h = absurd h
+
+short-alone : (v : Value) → T (defaultKinds v) → shortStart (ok v) ≡ true
+unfolding shortStart
+short-alone v h = ap (λ b. not b || leb (length (encodeValue (peel v))) 4096) (no-union v h)
+
+-- no union: the default stays as it is
+start-alone : (t : Schema) (v : Value) → (schemaKind t ≡ 10 → ⊥) → T (defaultKinds v) → shortStart (startDefault t v) ≡ true
+unfolding schemaKind startDefault
+start-alone (Schema.Plain k) v u h = short-alone v h
+start-alone (Schema.Fixed n) v u h = short-alone v h
+start-alone (Schema.Decimal p c n) v u h = short-alone v h
+start-alone (Schema.Uuid f) v u h = short-alone v h
+start-alone (Schema.Duration n) v u h = short-alone v h
+start-alone (Schema.Enum ss d) v u h = short-alone v h
+start-alone (Schema.Array t) v u h = short-alone v h
+start-alone (Schema.Map t) v u h = short-alone v h
+start-alone (Schema.Record fs) v u h = short-alone v h
+start-alone (Schema.Union vs ks ns) v u h = absurd (u refl)
+
+-- a Null variant gives Null
+start-null : (t : Schema) (vs : Variants) (ks : List (ℕ × ℕ)) (ns : List ℕ) (v : Value) → schemaKind t ≡ 0 → shortStart (startDefault (Schema.Union (variant t vs) ks ns) v) ≡ true
+unfolding startDefault first after shortStart kindOf peel encodeValue writeScalar table bytesOf
+start-null t vs ks ns v e = rw (eq-eqb (schemaKind t) 0 e)
+
+-- any other variant gives its outcome
+start-tried : (t : Schema) (vs : Variants) (ks : List (ℕ × ℕ)) (ns : List ℕ) (v : Value) → (schemaKind t ≡ 0 → ⊥)
+    → startDefault (Schema.Union (variant t vs) ks ns) v ≡ after (resolve t v) (λ r. ok (Value.Union 0 r))
+unfolding startDefault first
+start-tried t vs ks ns v e = rw (ne-eqb (schemaKind t) 0 e)
+
+-- a length that is capped far above 4,096
+capped : (n m : ℕ) → n ≡ min m 65536 → leb n 4096 ≡ leb m 4096
+capped n m e = go (leb m 4096) refl
+  where
+    go : (b : Bool) → leb m 4096 ≡ b → leb n 4096 ≡ b
+    go true q = let h = leb-true m 4096 q in le-leb n 4096 (omega (arith, h, e))
+    go false q = let h = leb-false m 4096 q in lt-leb n 4096 (omega (arith, h, e))
+
+outcome-accepted : (x : Outcome) (o : List ℕ) (n : ℕ) → Wrote (encoded x) o (Accepted n) → leb n 4096 ≡ shortStart (after x (λ r. ok (Value.Union 0 r)))
+unfolding Wrote Built encoded shortStart after kindOf peel
+outcome-accepted (ok v) o n w = capped n (length (encodeValue v)) (w .0)
+outcome-accepted (no k) o n w = absurd w
+
+outcome-refused : (x : Outcome) (o : List ℕ) (k : ℕ) → Wrote (encoded x) o (Refused k) → true ≡ shortStart (after x (λ r. ok (Value.Union 0 r)))
+unfolding Wrote encoded shortStart after
+outcome-refused (ok v) o k w = absurd w
+outcome-refused (no j) o k w = refl
+
+module _ (d : ℕ) (s v : List ℕ) (w : Ready d s) (g : SoundRead defaultKinds (readValue 16 v)) where
+  start-is : shortStart (onBoth startDefault (readSchema d s) (readValue 16 v)) ≡ shortStart (startDefault (w .tree) (g .tree))
+  start-is = ap shortStart (both-some startDefault _ _ (w .tree) (g .tree) (w .rest) (g .rest) (w .reads) (g .reads))
+
+  pub alone-short : (getD s 0 0 ≡ 10 → ⊥) → true ≡ shortStart (onBoth startDefault (readSchema d s) (readValue 16 v))
+  alone-short u =
+      let k = schema-kind d s (w .tree) (w .rest) (w .reads) in
+      sym (start-is ∙ start-alone (w .tree) (g .tree) (λ e. u (sym k ∙ e)) (g .sound))
+
+  module _ (e : getD s 0 0 ≡ 10) where
+    pub null-short : getD s 3 0 ≡ 0 → true ≡ shortStart (onBoth startDefault (readSchema d s) (readValue 16 v))
+    null-short z =
+        let f = found d s w e in
+        sym (start-is ∙ ap (λ t. shortStart (startDefault t (g .tree))) (f .are)
+        ∙ start-null (f .head) (f .others) (f .kinds) (f .named) (g .tree) (first-kind d s w e ∙ z))
+
+    module _ (z : getD s 3 0 ≡ 0 → ⊥) (o : List ℕ) where
+      tried-is : shortStart (onBoth startDefault (readSchema d s) (readValue 16 v)) ≡ shortStart (after (resolve (found d s w e .head) (g .tree)) (λ r. ok (Value.Union 0 r)))
+      tried-is =
+          let f = found d s w e in
+          start-is ∙ ap (λ t. shortStart (startDefault t (g .tree))) (f .are)
+          ∙ ap shortStart (start-tried (f .head) (f .others) (f .kinds) (f .named) (g .tree) (λ q. z (sym (first-kind d s w e) ∙ q)))
+
+      bytes-are : onBoth nodeBytes (readSchema (d - 1) (drop 3 s)) (readValue 16 v) ≡ encoded (resolve (found d s w e .head) (g .tree))
+      unfolding nodeBytes
+      bytes-are = let f = found d s w e in both-some nodeBytes _ _ (f .head) (g .tree) (f .behind) (g .rest) (f .reads) (g .reads)
+
+      pub accepted-short : (n : ℕ) → Wrote (onBoth nodeBytes (readSchema (d - 1) (drop 3 s)) (readValue 16 v)) o (Accepted n)
+          → leb n 4096 ≡ shortStart (onBoth startDefault (readSchema d s) (readValue 16 v))
+      accepted-short n q = outcome-accepted _ o n (subst (λ x. Wrote x o (Accepted n)) bytes-are q) ∙ sym tried-is
+
+      pub refused-short : (k : ℕ) → Wrote (onBoth nodeBytes (readSchema (d - 1) (drop 3 s)) (readValue 16 v)) o (Refused k)
+          → true ≡ shortStart (onBoth startDefault (readSchema d s) (readValue 16 v))
+      refused-short k q = outcome-refused _ o k (subst (λ x. Wrote x o (Refused k)) bytes-are q) ∙ sym tried-is
+
+-- ---- a field
+
+-- the default of a field that has one
+record Given (s : List ℕ) (p : ℕ) (d : Option Value) : Type 0 where
+  value : Value
+  rest : List ℕ
+  there : d ≡ some value
+  inside : p ≤ length s
+  reads : readValue 16 (drop p s) ≡ some (value, rest)
+
+default-given : (s : List ℕ) (p : ℕ) (d : Option Value) → DefaultAt s true p d → Given s p d
+unfolding DefaultAt
+default-given s p none w = absurd w
+default-given s p (some v) w = record { value = v; rest = w .1 .0; there = refl; inside = w .0; reads = w .1 .1 }
+
+default-none : (s : List ℕ) (p : ℕ) (d : Option Value) → DefaultAt s false p d → d ≡ none
+unfolding DefaultAt
+default-none s p none w = refl
+default-none s p (some v) w = absurd w
+
+and-false : (b : Bool) → (b && false) ≡ false
+and-false true = refl
+and-false false = refl
+
+and-true : (b : Bool) → (b && true) ≡ b
+and-true true = refl
+and-true false = refl
+
+module _ (d : ℕ) (s : List ℕ) (f : FieldAt) (w : SoundRead fieldSound (readField (readSchema d) s)) (g : FieldParts d s f) where
+  field-is-sound : T (defaultAllowed (g .default) && schemaSound (g .tree))
+  unfolding fieldSound
+  field-is-sound = subst (λ x. T (fieldSound x)) (same-read _ (w .tree) (g .name, g .default, g .tree) (w .rest) (g .rest) (w .reads) (g .reads)) (w .sound)
+
+  pub inner-sound : SoundRead schemaSound (readSchema d (drop (f .«schema_at») s))
+  inner-sound = record { tree = g .tree; rest = g .rest; reads = g .schema-at; sound = and-r (defaultAllowed (g .default)) (schemaSound (g .tree)) field-is-sound }
+
+  field-whole : testRead fieldShort (readField (readSchema d) s) ≡ (shortDefault (g .tree) (g .default) && defaultsShort (g .tree))
+  unfolding fieldShort
+  field-whole = test-some fieldShort _ (g .name, g .default, g .tree) (g .rest) (g .reads)
+
+  module _ (b : Bool) (e : b ≡ testRead defaultsShort (readSchema d (drop (f .«schema_at») s))) where
+    inner-is : defaultsShort (g .tree) ≡ b
+    inner-is = sym (e ∙ test-some defaultsShort _ (g .tree) (g .rest) (g .schema-at))
+
+    field-by : testRead fieldShort (readField (readSchema d) s) ≡ (shortDefault (g .tree) (g .default) && b)
+    field-by = field-whole ∙ ap (λ x. shortDefault (g .tree) (g .default) && x) inner-is
+
+    pub inner-long : b ≡ false → false ≡ testRead fieldShort (readField (readSchema d) s)
+    inner-long q = sym (field-by ∙ ap (λ x. shortDefault (g .tree) (g .default) && x) q ∙ and-false (shortDefault (g .tree) (g .default)))
+
+    module _ (q : b ≡ true) where
+      own : testRead fieldShort (readField (readSchema d) s) ≡ shortDefault (g .tree) (g .default)
+      own = field-by ∙ ap (λ x. shortDefault (g .tree) (g .default) && x) q ∙ and-true (shortDefault (g .tree) (g .default))
+
+      pub none-short : f .default ≡ false → true ≡ testRead fieldShort (readField (readSchema d) s)
+      unfolding shortDefault
+      none-short n =
+          let z = default-none s (f .«default_at») (g .default) (subst (λ x. DefaultAt s x (f .«default_at») (g .default)) n (g .default-at)) in
+          sym (own ∙ ap (shortDefault (g .tree)) z)
+
+      pub inner-ready : Ready d (drop (f .«schema_at») s)
+      inner-ready = short-ready d (drop (f .«schema_at») s) b inner-sound e q
+
+      module _ (y : f .default ≡ true) where
+        given : Given s (f .«default_at») (g .default)
+        given = default-given s (f .«default_at») (g .default) (subst (λ x. DefaultAt s x (f .«default_at») (g .default)) y (g .default-at))
+
+        pub default-inside : f .«default_at» ≤ length s
+        default-inside = given .inside
+
+        pub default-sound : SoundRead defaultKinds (readValue 16 (drop (f .«default_at») s))
+        unfolding defaultAllowed
+        default-sound =
+            let v = given .value in
+            let h : T (defaultKinds v && keysRise v) = subst (λ x. T (defaultAllowed x)) (given .there) (and-l (defaultAllowed (g .default)) (schemaSound (g .tree)) field-is-sound) in
+            record { tree = v; rest = given .rest; reads = given .reads; sound = and-l (defaultKinds v) (keysRise v) h }
+
+        pub start-short : (r : Bool) → r ≡ shortStart (onBoth startDefault (readSchema d (drop (f .«schema_at») s)) (readValue 16 (drop (f .«default_at») s)))
+            → r ≡ testRead fieldShort (readField (readSchema d) s)
+        unfolding shortDefault
+        start-short r n =
+            n ∙ ap shortStart (both-some startDefault _ _ (g .tree) (given .value) (g .rest) (given .rest) (g .schema-at) (given .reads))
+            ∙ sym (own ∙ ap (shortDefault (g .tree)) (given .there))

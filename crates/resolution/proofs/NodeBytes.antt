@@ -1,0 +1,194 @@
+-- The bytes of a resolved Array, Map and Record: a header and then those of each child; and what a sound schema says of its parts.
+use Prim.Native.Nat.{ℕ, zero, suc, _+_, _-_, _≤_, _<_}
+use mathlib.Core.Path.{_≡_, refl, sym, ap, _∙_, subst}
+use mathlib.Core.Logic.{_⊎_, ⊎-elim, inl, inr}
+use mathlib.Core.List.{List, [], _∷_, _++_, append-assoc}
+use mathlib.Core.Option.{Option, none, some}
+use mathlib.Core.Bool.{Bool, true, false, _&&_, _||_, not}
+use native.Mathlib.Omega.{arith}
+use lib.Dec.{T, eqb}
+use lib.ListN.{length, getD, take, drop, length-drop}
+use lib.Seq.{length-take-le}
+use lib.Ieee.Fits.{and-l, and-r}
+use borrow.Author.Tests.{eq-eqb, ne-eqb}
+use Rattle.base.specs.Base.{if_then_else_, Result, ok, no, after}
+use Rattle.number.specs.Number.{allBytes, bigEndian, numberAt, bytesOf}
+use Rattle.number.proofs.Laws.{allBytes-take, allBytes-tail, bytesOf-bigEndian}
+use Rattle.text.specs.Text.{Text}
+use Rattle.text.specs.Read.{Read, _>>=_}
+use Rattle.text.specs.Measured.{Reads}
+use Rattle.frame.specs.Kind
+use Rattle.frame.specs.Tree.{Value, Values, Entries, Schema, Fields, noItems, item, noEntries, entry, noFields, field, kindOf, is, items, entries, peel, schemaKind}
+use Rattle.frame.specs.Readers.{readMany, readList}
+use Rattle.frame.specs.ValueFrame.{itemsOf, entriesOf, readEntry, readValue, writeText, countItems, countEntries, encodeValue, encodeItems, encodeEntries}
+use Rattle.frame.specs.SchemaFrame.{fieldsOf, readField, readSchema}
+use Rattle.frame.specs.Sound.{schemaSound, fieldsSound, hasField, defaultAllowed}
+use Rattle.frame.proofs.ReadBack.{value-exact}
+use Rattle.types.specs.Types.{Outcome}
+use Rattle.types.specs.Contract.{encoded, onRead}
+use Rattle.avro.specs.Union.{resolve-union, find-schema-with-known-schemata, inUnion}
+use Rattle.avro.specs.Resolve.{eachItem, eachEntry, resolve-array, resolve-map, lookup, fieldValue, resolve-record, resolve, resolveFields, startDefault, trials}
+use Rattle.avro.specs.Defaults.{defaultsShort, fieldDefaultsShort, shortDefault}
+use Rattle.find.specs.Find.{Keyed, peelRead}
+use Rattle.resolution.specs.Contract.{Ready, ReadyField, onBoth, resolvePeeled, nodeBytes, peeledBytes, entryBytes, fieldBytes}
+use Rattle.resolution.proofs.ReadParts.{mapRead, reads-some, reads-eq, reads-first, bind-some, map-inv, many-length, value-array, value-map, schema-array, schema-map, schema-fields, schema-kind, Split, many-split}
+use Rattle.resolution.proofs.Pieces.{both-some, onFirst, onSecond, front, eachBytes}
+
+-- ---- peeling
+
+resolve-peel : (t : Schema) (v : Value) → resolve t v ≡ resolvePeeled t (peel v)
+unfolding resolve resolvePeeled resolve-union
+resolve-peel (Schema.Plain k) v = refl
+resolve-peel (Schema.Fixed n) v = refl
+resolve-peel (Schema.Decimal p s n) v = refl
+resolve-peel (Schema.Uuid f) v = refl
+resolve-peel (Schema.Duration n) v = refl
+resolve-peel (Schema.Enum ss d) v = refl
+resolve-peel (Schema.Array s) v = refl
+resolve-peel (Schema.Map s) v = refl
+resolve-peel (Schema.Record fs) v = refl
+resolve-peel (Schema.Union vs ks ns) v = refl
+
+pub node-peel : (t : Schema) (v : Value) → nodeBytes t v ≡ peeledBytes t (peel v)
+unfolding nodeBytes peeledBytes
+node-peel t v = ap encoded (resolve-peel t v)
+
+pub both-peel : (x : Read Schema) (y z : Read Value) → z ≡ peelRead y → onBoth nodeBytes x y ≡ onBoth peeledBytes x z
+both-peel x y z e = go x y ∙ ap (onBoth peeledBytes x) (sym e)
+  where
+    go : (x : Read Schema) (y : Read Value) → onBoth nodeBytes x y ≡ onBoth peeledBytes x (peelRead y)
+    go none none = unfold onBoth peelRead in refl
+    go none (some y) = unfold onBoth peelRead in refl
+    go (some x) none = unfold onBoth peelRead in refl
+    go (some x) (some y) = unfold onBoth peelRead in node-peel (x .0) (y .0)
+
+pub peel-reads : (y z : Read Value) → z ≡ peelRead y → Reads y → Reads z
+unfolding Reads peelRead
+peel-reads y z e p = (peel (p .0), (p .1 .0, e ∙ rw (p .1 .1)))
+
+-- ---- the kind of a value that was read
+
+kind-first : (w : Value) (r : List ℕ) → getD (encodeValue w ++ r) 0 0 ≡ kindOf w
+unfolding encodeValue kindOf
+kind-first (Value.Scalar k n) r = refl
+kind-first (Value.Octets k b) r = refl
+kind-first (Value.Enum i s) r = refl
+kind-first (Value.Array vs) r = refl
+kind-first (Value.Map es) r = refl
+kind-first (Value.Record es) r = refl
+kind-first (Value.Union i v) r = refl
+
+pub value-kind : (d : ℕ) (s : List ℕ) (w : Value) (r : List ℕ) → T (allBytes s) → readValue d s ≡ some (w, r) → getD s 0 0 ≡ kindOf w
+value-kind d s w r b e =
+    let x = rw e at (value-exact d s b) in
+    ap (λ l. getD l 0 0) (x .1) ∙ kind-first w r
+
+-- ---- parts of a sound schema
+
+pub ready-reads : (d : ℕ) (s : List ℕ) → Ready d s → Reads (readSchema d s)
+ready-reads d s r = reads-some (r .tree) (r .rest) (r .reads)
+
+sound-array : (t i : Schema) → t ≡ Schema.Array i → T (schemaSound t) → T (defaultsShort t) → T (schemaSound i) × T (defaultsShort i)
+unfolding schemaSound defaultsShort
+sound-array t i e p q = (rw e at p, rw e at q)
+
+sound-map : (t i : Schema) → t ≡ Schema.Map i → T (schemaSound t) → T (defaultsShort t) → T (schemaSound i) × T (defaultsShort i)
+unfolding schemaSound defaultsShort
+sound-map t i e p q = (rw e at p, rw e at q)
+
+module _ (d : ℕ) (s : List ℕ) (r : Ready d s) where
+  item-inv : getD s 0 0 ≡ 8 → (i : Schema) × ((readSchema (d - 1) (drop 1 s) ≡ some (i, r .rest)) × (r .tree ≡ Schema.Array i))
+  item-inv e = map-inv Schema.Array (readSchema (d - 1) (drop 1 s)) (r .tree) (r .rest) (sym (schema-array d s (ready-reads d s r) e) ∙ r .reads)
+
+  pub ready-array : getD s 0 0 ≡ 8 → Ready (d - 1) (drop 1 s)
+  ready-array e =
+      let i = item-inv e in
+      let h = sound-array (r .tree) (i .0) (i .1 .1) (r .sound) (r .short) in
+      record { tree = i .0; rest = r .rest; reads = i .1 .0; sound = h .0; short = h .1 }
+
+  pub value-inv : getD s 0 0 ≡ 9 → (i : Schema) × ((readSchema (d - 1) (drop 1 s) ≡ some (i, r .rest)) × (r .tree ≡ Schema.Map i))
+  value-inv e = map-inv Schema.Map (readSchema (d - 1) (drop 1 s)) (r .tree) (r .rest) (sym (schema-map d s (ready-reads d s r) e) ∙ r .reads)
+
+  pub ready-map : getD s 0 0 ≡ 9 → Ready (d - 1) (drop 1 s)
+  ready-map e =
+      let i = value-inv e in
+      let h = sound-map (r .tree) (i .0) (i .1 .1) (r .sound) (r .short) in
+      record { tree = i .0; rest = r .rest; reads = i .1 .0; sound = h .0; short = h .1 }
+
+-- ---- headers
+
+pub head-bytes : (s : List ℕ) (k : ℕ) → T (allBytes s) → 3 ≤ length s → getD s 0 0 ≡ k → take 3 s ≡ k ∷ bytesOf 2 (numberAt s 1 2)
+head-bytes [] k b h e = absurd (omega arith)
+head-bytes (x ∷ s) k b h e =
+    let l : length (take 2 s) ≡ 2 = length-take-le 2 s (omega arith) in
+    let q : bytesOf (length (take 2 s)) (bigEndian (take 2 s)) ≡ take 2 s = bytesOf-bigEndian (take 2 s) (allBytes-take 2 s (allBytes-tail x s b)) in
+    ap (λ (j : ℕ). j ∷ take 2 s) e ∙ ap (λ (t : List ℕ). k ∷ t) (sym q ∙ ap (λ (j : ℕ). bytesOf j (bigEndian (take 2 s))) l)
+
+pub no-ok : {A : Type 0} (k : ℕ) (a : A) → _≡_ {A = Result A} (no k) (ok a) → ⊥
+no-ok k a e = let z : _≡_ {A = ℕ} 0 1 = cc in omega arith
+
+-- ---- arrays
+
+count-items : (f : Value → Outcome) (xs : List Value) (ws : Values) → eachItem f (itemsOf xs) ≡ ok ws → countItems ws ≡ length xs
+unfolding eachItem itemsOf countItems
+count-items f [] ws e = let q : noItems ≡ ws = cc in sym (ap countItems q)
+count-items f (x ∷ xs) ws e = go (f x) (eachItem f (itemsOf xs)) (λ us. count-items f xs us) e
+  where
+    go : (o : Outcome) (y : Result Values) → ((us : Values) → y ≡ ok us → countItems us ≡ length xs) → after o (λ r. after y (λ rs. ok (item r rs))) ≡ ok ws → countItems ws ≡ suc (length xs)
+    go (no k) y ih q = absurd (no-ok k ws (unfold after in q))
+    go (ok r) (no k) ih q = absurd (no-ok k ws (unfold after in q))
+    go (ok r) (ok us) ih q =
+        let q' : _≡_ {A = Result Values} (ok (item r us)) (ok ws) = unfold after in q in
+        let h : item r us ≡ ws = cc in
+        sym (ap countItems h) ∙ ap suc (ih us refl)
+
+items-each : (f : Value → Outcome) (xs : List Value) → after (eachItem f (itemsOf xs)) (λ ws. ok (encodeItems ws)) ≡ eachBytes (λ v. encoded (f v)) xs
+unfolding eachItem itemsOf eachBytes after encoded encodeValue
+items-each f [] = refl
+items-each f (x ∷ xs) = go (f x) (eachItem f (itemsOf xs)) (eachBytes (λ v. encoded (f v)) xs) (items-each f xs)
+  where
+    go : (o : Outcome) (y : Result Values) (z : Result (List ℕ)) → after y (λ ws. ok (encodeItems ws)) ≡ z
+        → after (after o (λ r. after y (λ rs. ok (item r rs)))) (λ ws. ok (encodeItems ws)) ≡ after (encoded o) (λ b. front b z)
+    go (no k) y z h = refl
+    go (ok r) (no k) z h = rw (← h)
+    go (ok r) (ok us) z h = rw (← h)
+
+array-whole : (t : Schema) (xs : List Value) (h : List ℕ) → h ≡ 8 ∷ bytesOf 2 (length xs) → peeledBytes (Schema.Array t) (Value.Array (itemsOf xs)) ≡ front h (eachBytes (nodeBytes t) xs)
+unfolding peeledBytes nodeBytes resolvePeeled resolve-array kindOf items
+array-whole t xs h e = go (eachItem (λ x. resolve t x) (itemsOf xs)) refl ∙ ap (front h) (items-each (λ x. resolve t x) xs)
+  where
+    go : (o : Result Values) → eachItem (λ x. resolve t x) (itemsOf xs) ≡ o → encoded (after o (λ vs. ok (Value.Array vs))) ≡ front h (after o (λ ws. ok (encodeItems ws)))
+    go (no k) q = unfold after encoded in refl
+    go (ok ws) q = unfold after encoded encodeValue in rw (e, count-items (λ x. resolve t x) xs ws q)
+
+array-other : (t : Schema) (w : Value) → (kindOf w ≡ 8 → ⊥) → peeledBytes (Schema.Array t) w ≡ no 6
+unfolding peeledBytes resolvePeeled resolve-array encoded
+array-other t w f = rw (ne-eqb (kindOf w) 8 f)
+
+module _ (ds dv : ℕ) (s v : List ℕ) (r : Ready ds s) (pv : Reads (readValue dv v)) (es : getD s 0 0 ≡ 8) (b : T (allBytes v)) where
+  pub array-no : (getD v 0 0 ≡ 8 → ⊥) → onBoth peeledBytes (readSchema ds s) (readValue dv v) ≡ no 6
+  unfolding Reads
+  array-no f =
+      let i = item-inv ds s r es in
+      both-some peeledBytes _ _ (r .tree) (pv .0) (r .rest) (pv .1 .0) (r .reads) (pv .1 .1)
+      ∙ ap (λ t. peeledBytes t (pv .0)) (i .1 .1)
+      ∙ array-other (i .0) (pv .0) (λ q. f (value-kind dv v (pv .0) (pv .1 .0) b (pv .1 .1) ∙ q))
+
+  module _ (ev : getD v 0 0 ≡ 8) (n : ℕ) (hn : n ≡ numberAt v 1 2) where
+    pub array-others : Reads (readMany (readValue (dv - 1)) n (drop 3 v))
+    array-others = rw hn (reads-first _ _ (reads-eq _ _ (value-array dv v pv ev .1) pv))
+
+    pub array-start : onBoth peeledBytes (readSchema ds s) (readValue dv v) ≡ front (take 3 v) (onRead (eachBytes (onFirst nodeBytes (readSchema (ds - 1) (drop 1 s)))) (readMany (readValue (dv - 1)) n (drop 3 v)))
+    unfolding Reads onRead onFirst
+    array-start =
+        let i = item-inv ds s r es in
+        let o = array-others in
+        let x = o .0 in
+        let l : length x ≡ n = many-length (readValue (dv - 1)) n (drop 3 v) x (o .1 .0) (o .1 .1) in
+        let m : readMany (readValue (dv - 1)) (numberAt v 1 2) (drop 3 v) ≡ some (x, o .1 .0) = ap (λ j. readMany (readValue (dv - 1)) j (drop 3 v)) (sym hn) ∙ o .1 .1 in
+        let y : readValue dv v ≡ some (Value.Array (itemsOf x), o .1 .0) = value-array dv v pv ev .1 ∙ bind-some _ _ x (o .1 .0) m in
+        let h : take 3 v ≡ 8 ∷ bytesOf 2 (length x) = head-bytes v 8 b (value-array dv v pv ev .0) ev ∙ ap (λ (j : ℕ). 8 ∷ bytesOf 2 j) (sym (l ∙ hn)) in
+        both-some peeledBytes _ _ (r .tree) (Value.Array (itemsOf x)) (r .rest) (o .1 .0) (r .reads) y
+        ∙ ap (λ t. peeledBytes t (Value.Array (itemsOf x))) (i .1 .1)
+        ∙ array-whole (i .0) x (take 3 v) h
+        ∙ rw (i .1 .0, o .1 .1)

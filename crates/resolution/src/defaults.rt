@@ -1,0 +1,106 @@
+// Number 4: whether every default that its union's first variant accepts is at most 4,096 bytes there. A default is resolved
+// against a variant whose own defaults are known to be short, so inner schemas come first.
+use crate::resolve::resolve_node;
+use buffer::Answer;
+use field::field_at;
+use schema::field_len;
+use schema::schema_len;
+ghost use mathlib.Core.Path.{_≡_};
+ghost use lib.ListN.{getD};
+ghost use Rattle.frame.specs.ValueFrame.{readValue};
+ghost use Rattle.frame.specs.SchemaFrame.{readSchema, readField};
+ghost use Rattle.frame.specs.Sound.{defaultKinds, schemaSound};
+ghost use Rattle.avro.specs.Resolve.{startDefault};
+ghost use Rattle.avro.specs.Defaults.{defaultsShort, shortStart};
+ghost use Rattle.resolution.specs.Contract.{Ready, onBoth};
+ghost use Rattle.resolution.specs.Shortness.{SoundRead, fieldShort, fieldSound, testRead};
+
+// Whether every default of the schema is short. `out` is scratch: what it holds afterwards is not said.
+pub fn defaults_short(s: &[u8], out: &mut [u8], ds: usize) -> bool
+    requires { ⌜ SoundRead schemaSound (readSchema ds (now s)) ⌝ }
+    ensures { λ r. ⌜ r ≡ testRead defaultsShort (readSchema ds (now (s .entry))) ⌝ }
+{
+    let k = s[0];
+    if k == 0x08 {
+        return defaults_short(&s[1..], out, ds - 1);
+    }
+    if k == 0x09 {
+        return defaults_short(&s[1..], out, ds - 1);
+    }
+    if k == 0x0a {
+        return variants_short(s, out, ds);
+    }
+    if k == 0x0b {
+        return fields_short(s, out, ds);
+    }
+    true
+}
+
+// The variants of a union.
+fn variants_short(s: &[u8], out: &mut [u8], ds: usize) -> bool
+    requires { ⌜ SoundRead schemaSound (readSchema ds (now s)) × (getD (now s) 0 0 ≡ 10) ⌝ }
+    ensures { λ r. ⌜ r ≡ testRead defaultsShort (readSchema ds (now (s .entry))) ⌝ }
+{
+    let mut left = number::read2(s, 1);
+    let mut at: usize = 3;
+    while 0 < left {
+        if !defaults_short(&s[at..], out, ds - 1) {
+            return false;
+        }
+        at += schema_len(&s[at..], ds - 1);
+        left -= 1;
+    }
+    true
+}
+
+// The fields of a record.
+fn fields_short(s: &[u8], out: &mut [u8], ds: usize) -> bool
+    requires { ⌜ SoundRead schemaSound (readSchema ds (now s)) × (getD (now s) 0 0 ≡ 11) ⌝ }
+    ensures { λ r. ⌜ r ≡ testRead defaultsShort (readSchema ds (now (s .entry))) ⌝ }
+{
+    let mut left = number::read2(s, 1);
+    let mut at: usize = 3;
+    while 0 < left {
+        if !field_short(&s[at..], out, ds - 1) {
+            return false;
+        }
+        at += field_len(&s[at..], ds - 1);
+        left -= 1;
+    }
+    true
+}
+
+// A field: the defaults inside its schema, and then its own.
+fn field_short(s: &[u8], out: &mut [u8], ds: usize) -> bool
+    requires { ⌜ SoundRead fieldSound (readField (readSchema ds) (now s)) ⌝ }
+    ensures { λ r. ⌜ r ≡ testRead fieldShort (readField (readSchema ds) (now (s .entry))) ⌝ }
+{
+    let f = field_at(s, ds);
+    let at = f.schema_at;
+    if !defaults_short(&s[at..], out, ds) {
+        return false;
+    }
+    if !f.default {
+        return true;
+    }
+    let from = f.default_at;
+    start_short(&s[at..], &s[from..], out, ds)
+}
+
+// What the default d becomes in the first variant of s. A schema that is no union leaves it as it is, and a Null variant gives
+// Null. Behind a union's count of variants, at 3, stands the first of them.
+fn start_short(s: &[u8], d: &[u8], out: &mut [u8], ds: usize) -> bool
+    requires { ⌜ Ready ds (now s) × SoundRead defaultKinds (readValue 16 (now d)) ⌝ }
+    ensures { λ r. ⌜ r ≡ shortStart (onBoth startDefault (readSchema ds (now (s .entry))) (readValue 16 (now (d .entry)))) ⌝ }
+{
+    if s[0] != 0x0a {
+        return true;
+    }
+    if s[3] == 0x00 {
+        return true;
+    }
+    match resolve_node(&s[3..], d, out, ds - 1, 16) {
+        Answer::Accepted(n) => n <= 4096,
+        Answer::Refused(_) => true,
+    }
+}

@@ -1,0 +1,121 @@
+-- What the answers for a union and a record say, and the turns of the loops over variants and names.
+use Prim.Native.Nat.{ℕ, zero, suc, _+_, _-_, _≤_, _<_}
+use mathlib.Core.Path.{_≡_, refl, sym, ap, _∙_, subst}
+use mathlib.Core.List.{List, [], _∷_}
+use mathlib.Core.Option.{Option, none, some}
+use mathlib.Core.Bool.{Bool, true, false, _&&_, _||_, not}
+use native.Mathlib.Omega.{arith}
+use native.Mathlib.Nat.{add-zero}
+use lib.Dec.{leb, ltb, eqb}
+use lib.ListN.{length, take, drop, getD, length-drop}
+use lib.Seq.{drop-drop, getD-drop}
+use Rattle.number.specs.Number.{numberAt}
+use Rattle.text.specs.Text.{Text, same}
+use Rattle.text.specs.Read.{Read, readNumber, readCounted}
+use Rattle.text.specs.Measured.{Measured, Reads}
+use Rattle.frame.specs.Tree.{Schema, schemaKind}
+use Rattle.frame.specs.Readers.{readMany, readList}
+use Rattle.frame.specs.SchemaFrame.{fieldsOf, variantsOf, readField, readLead, readSchemaContent, readSchema}
+use Rattle.frame.specs.Sound.{schemaSound, fieldsSound, variantsSound, kindsSound, positionsSound, countVariants, hasField}
+use Rattle.frame.specs.Checks.{Checks, Spans}
+use Rattle.frame.specs.declared.Checked.the-variants.{Of, Broken}
+use Rattle.schema.specs.Parts.{Field, eachSound, namesDiffer, noUnions}
+use Rattle.schema.proofs.Reading.{Going, going-step, Held, held, checks-of, onto, bind-some, and-assoc, and-true, read-what, many-length, list-got, measured-checks, not-both}
+use Rattle.schema.proofs.Nodes.{union-got, record-content, checks-onto, schema-kind, schema-there, variants-count}
+use Rattle.schema.proofs.Seeking.{Left, First, left-first, left-step, left-behind, left-reads, reads-some, field-name, list-long, fields-sound}
+
+pub checks-reads : {A : Type 0} (sound : A → Bool) (x : Read A) (s : List ℕ) (n : ℕ) (b : Bool) → Checks sound x s (Of n b) → Reads x
+checks-reads sound x s n b w = let q = held sound x s n b w in reads-some x (q .what) (drop n s) (q .read)
+
+-- ---- variants
+
+pub variant-there : (d : ℕ) (s : List ℕ) (at m : ℕ) (fine : Bool) → Checks schemaSound (readSchema d (drop at s)) (drop at s) (Of m fine) → at < length s
+variant-there d s at m fine w =
+    let q = held schemaSound _ _ m fine w in
+    let t : length (drop at s) ≡ 0 → ⊥ = schema-there d (drop at s) (q .what) _ (q .read) .1 in
+    omega (arith, t, length-drop at s)
+
+pub variants-step : (d : ℕ) (s : List ℕ) (at left : ℕ) (ok : Bool) → Going (readList (readSchema d) s) (readSchema d) noUnions s at left ok noUnions → 0 < left
+    → (m : ℕ) (fine one ok' : Bool) → Checks schemaSound (readSchema d (drop at s)) (drop at s) (Of m fine) → one ≡ not (eqb (getD s at 0) 10) && fine → ok' ≡ ok && one
+    → Going (readList (readSchema d) s) (readSchema d) noUnions s (at + m) (left - 1) ok' noUnions
+unfolding variantsSound variantsOf
+variants-step d s at left ok w h m fine one ok' v e1 e2 =
+    going-step _ (readSchema d) noUnions s at left ok noUnions w h m (q .inside) (q .what) (q .read) ok' noUnions
+    (λ l. ap (λ y. ok && (y && noUnions l)) (sym each) ∙ sym (and-assoc ok one (noUnions l)) ∙ ap (λ y. y && noUnions l) (sym e2))
+  where
+    q : Held schemaSound (readSchema d (drop at s)) (drop at s) m fine
+    q = held schemaSound _ _ m fine v
+
+    kind : schemaKind (q .what) ≡ getD s at 0
+    kind = schema-kind d (drop at s) (q .what) _ (q .read) ∙ getD-drop at s 0 0 ∙ ap (λ i. getD s i 0) (add-zero at)
+
+    each : one ≡ not (eqb (schemaKind (q .what)) 10) && schemaSound (q .what)
+    each = e1 ∙ ap (λ y. not (eqb y 10) && fine) (sym kind) ∙ ap (λ y. not (eqb (schemaKind (q .what)) 10) && y) (q .tells)
+
+-- ---- unions
+
+pub count-there : (node : List ℕ → Read Schema) (s : List ℕ) (a : ℕ) (ok : Bool) → Checks noUnions (readList node s) s (Of a ok) → 2 ≤ length s
+count-there node s a ok v = list-long node s (checks-reads noUnions _ s a ok v)
+
+pub union-checks : (node : List ℕ → Read Schema) (s : List ℕ) (a : ℕ) (ok : Bool) → Checks noUnions (readList node s) s (Of a ok) → (count : ℕ) → count ≡ numberAt s 0 2
+    → (b : ℕ) (kinds : Bool) → Checks (kindsSound count 0) (readList readLead (drop a s)) (drop a s) (Of b kinds)
+    → (d : ℕ) (named : Bool) → Checks (positionsSound count) (readList (readNumber 2) (drop (a + b) s)) (drop (a + b) s) (Of d named)
+    → (x y z : Bool) → x ≡ ltb 0 count && ok → y ≡ x && kinds → z ≡ y && named → Checks schemaSound (readSchemaContent node 10 s) s (Of (a + b + d) z)
+unfolding schemaSound
+union-checks node s a ok v count ec b kinds w d named u x y z ex ey ez =
+    let q = held noUnions (readList node s) s a ok v in
+    let r = held (kindsSound count 0) (readList readLead (drop a s)) (drop a s) b kinds w in
+    let t = held (positionsSound count) (readList (readNumber 2) (drop (a + b) s)) (drop (a + b) s) d named u in
+    let n : count ≡ countVariants (variantsOf (q .what)) = sym (variants-count (q .what) ∙ many-length node (numberAt s 0 2) (drop 2 s) (q .what) _ (sym (list-got node s (count-there node s a ok v)) ∙ q .read) ∙ sym ec) in
+    checks-of schemaSound _ s (a + b + d) z (omega (arith, q .inside, r .inside, t .inside, length-drop a s, length-drop (a + b) s)) _
+    (union-got node s a (q .what) (q .read) b (r .what) (r .read) d (t .what) (t .read))
+    (ez ∙ ap (λ k. k && named) (ey ∙ ap (λ k. k && kinds) (ex ∙ ap (λ k. ltb 0 count && k) (q .tells)) ∙ ap (λ k. ltb 0 count && noUnions (q .what) && k) (r .tells))
+    ∙ ap (λ k. ltb 0 count && noUnions (q .what) && kindsSound count 0 (r .what) && k) (t .tells)
+    ∙ ap (λ k. ltb 0 k && noUnions (q .what) && kindsSound k 0 (r .what) && positionsSound k (t .what)) n)
+
+-- ---- records
+
+pub record-checks : (node : List ℕ → Read Schema) (s : List ℕ) (m : ℕ) (ok : Bool) → Checks eachSound (readList (readField node) s) s (Of m ok) → (differ : Bool)
+    → ((fs : List Field) (u : List ℕ) → readList (readField node) s ≡ some (fs, u) → differ ≡ namesDiffer fs) → (b : Bool) → b ≡ ok && differ → Checks schemaSound (readSchemaContent node 11 s) s (Of m b)
+unfolding schemaSound
+record-checks node s m ok v differ h b e =
+    let q = held eachSound (readList (readField node) s) s m ok v in
+    checks-of schemaSound _ s m b (q .inside) (Schema.Record (fieldsOf (q .what))) (record-content node s ∙ bind-some (q .what, drop m s) _ (q .read))
+    (e ∙ ap (λ k. k && differ) (q .tells) ∙ ap (λ k. eachSound (q .what) && k) (h (q .what) (drop m s) (q .read)) ∙ fields-sound (q .what))
+
+-- ---- names
+
+pub name-reads : (node : List ℕ → Read Schema) (t : List ℕ) → Reads (readField node t) → Reads (readCounted t)
+unfolding Reads
+name-reads node t r = let q = field-name node t (r .0) (r .1 .0) (r .1 .1) in (r .0 .0, (q .0, q .1))
+
+name-is : (node : List ℕ → Read Schema) (t : List ℕ) (f : Field) (r : List ℕ) → readField node t ≡ some (f, r) → (other : Text) (v : List ℕ) → readCounted t ≡ some (other, v) → other ≡ f .0
+name-is node t f r e other v g = read-what (sym g ∙ field-name node t f r e .1)
+
+abbrev pub seeks : Text → List Field → Bool
+seeks name fs = hasField name (fieldsOf fs)
+
+module _ (x : Read (List Field)) (node : List ℕ → Read Schema) (name : Text) (s : List ℕ) (at left : ℕ) (w : Left x (readField node) (seeks name) (seeks name) s at left) (h : 0 < left) (other : Text) (v : List ℕ) (g : readCounted (drop at s) ≡ some (other, v)) where
+  pub seek-hit : same other name ≡ true → (l : List Field) (u : List ℕ) → x ≡ some (l, u) → true ≡ seeks name l
+  unfolding hasField fieldsOf
+  seek-hit t l u e =
+      let q = left-first x (readField node) (seeks name) (seeks name) s at left w h in
+      sym (w .tells l u e ∙ ap (seeks name) (q .cons) ∙ ap (λ y. same y name || seeks name (q .others)) (sym (name-is node (drop at s) (q .item) (q .behind) (q .first) other v g)) ∙ ap (λ y. y || seeks name (q .others)) t)
+
+  pub seek-step : same other name ≡ false → (m : ℕ) → Spans (readField node (drop at s)) (drop at s) m → Left x (readField node) (seeks name) (seeks name) s (at + m) (left - 1)
+  unfolding hasField fieldsOf
+  seek-step t m k =
+      let q = left-first x (readField node) (seeks name) (seeks name) s at left w h in
+      left-step x (readField node) (seeks name) (seeks name) s at left w (seeks name) h m k
+      (ap (λ y. same y name || seeks name (q .others)) (sym (name-is node (drop at s) (q .item) (q .behind) (q .first) other v g)) ∙ ap (λ y. y || seeks name (q .others)) t)
+
+pub differ-step : (node : List ℕ → Read Schema) (s : List ℕ) (at left : ℕ) (ok : Bool) (w : Left (readList (readField node) s) (readField node) namesDiffer (λ fs. ok && namesDiffer fs) s at left) (h : 0 < left)
+    → (other : Text) (v : List ℕ) → readCounted (drop at s) ≡ some (other, v) → (m : ℕ) → Spans (readField node (drop at s)) (drop at s) m → (has ok' : Bool)
+    → ((fs : List Field) (u : List ℕ) → readMany (readField node) (left - 1) (drop (at + m) s) ≡ some (fs, u) → has ≡ seeks other fs) → ok' ≡ ok && not has
+    → Left (readList (readField node) s) (readField node) namesDiffer (λ fs. ok' && namesDiffer fs) s (at + m) (left - 1)
+unfolding namesDiffer
+differ-step node s at left ok w h other v g m k has ok' f e =
+    let q = left-first _ (readField node) namesDiffer (λ fs. ok && namesDiffer fs) s at left w h in
+    let seen : has ≡ seeks (q .item .0) (q .others) = f (q .others) (w .after) (left-behind _ (readField node) namesDiffer (λ fs. ok && namesDiffer fs) s at left w h m k) ∙ ap (λ y. seeks y (q .others)) (name-is node (drop at s) (q .item) (q .behind) (q .first) other v g) in
+    left-step _ (readField node) namesDiffer (λ fs. ok && namesDiffer fs) s at left w (λ fs. ok' && namesDiffer fs) h m k
+    (ap (λ y. ok && (not y && namesDiffer (q .others))) (sym seen) ∙ sym (and-assoc ok (not has) (namesDiffer (q .others))) ∙ ap (λ y. y && namesDiffer (q .others)) (sym e))

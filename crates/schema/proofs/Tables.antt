@@ -1,0 +1,54 @@
+-- The loops over the two tables of a union.
+use Prim.Native.Nat.{ℕ, zero, suc, _+_, _-_, _≤_, _<_}
+use mathlib.Core.Path.{_≡_, refl, sym, ap, _∙_, subst}
+use mathlib.Core.List.{List, [], _∷_}
+use mathlib.Core.Option.{Option, none, some}
+use mathlib.Core.Bool.{Bool, true, false, _&&_}
+use native.Mathlib.Omega.{arith}
+use native.Mathlib.Numerals.{add-one}
+use native.Mathlib.Nat.{add-zero}
+use lib.Dec.{leb, ltb, eqb}
+use lib.ListN.{length, take, drop, getD, length-drop}
+use lib.Seq.{drop-drop, getD-drop}
+use borrow.Author.Tests.{leb-true, leb-false}
+use Rattle.number.specs.Number.{bigEndian, numberAt}
+use Rattle.text.specs.Read.{Read, _>>=_, readNumber}
+use Rattle.frame.specs.Readers.{readMany, readList}
+use Rattle.frame.specs.SchemaFrame.{readLead}
+use Rattle.frame.specs.Sound.{kindsSound, positionsSound}
+use Rattle.schema.proofs.Reading.{Going, going-step, number-got, number-short, number-one, bind-none, and-assoc}
+
+pub lead-short : (s : List ℕ) → length s < 3 → readLead s ≡ none
+unfolding readLead _>>=_
+lead-short s h = go (leb 1 (length s)) refl
+  where
+    go : (b : Bool) → leb 1 (length s) ≡ b → readLead s ≡ none
+    go true e = rw (number-got 1 s (leb-true 1 (length s) e), number-short 2 (drop 1 s) (omega (arith, length-drop 1 s, leb-true 1 (length s) e)))
+    go false e = rw (number-short 1 s (leb-false 1 (length s) e))
+
+pub lead-got : (s : List ℕ) → 3 ≤ length s → readLead s ≡ some ((getD s 0 0, numberAt s 1 2), drop 3 s)
+unfolding readLead _>>=_
+lead-got s h = rw (number-got 1 s (omega arith), number-got 2 (drop 1 s) (omega (arith, length-drop 1 s)), number-one s (omega arith), drop-drop 2 1 s)
+
+pub leads-step : (count : ℕ) (s : List ℕ) (at left least : ℕ) (ok : Bool) → Going (readList readLead s) readLead (kindsSound count 0) s at left ok (kindsSound count least)
+    → 0 < left → 3 ≤ length s - at → (k p : ℕ) → k ≡ getD s at 0 → p ≡ numberAt s (at + 1) 2 → (fine ok' : Bool) → fine ≡ leb least k && leb k 25 && ltb p count → ok' ≡ ok && fine
+    → Going (readList readLead s) readLead (kindsSound count 0) s (at + 3) (left - 1) ok' (kindsSound count (k + 1))
+unfolding kindsSound
+leads-step count s at left least ok w h g k p ek ep fine ok' ef eo =
+    going-step _ readLead (kindsSound count 0) s at left ok (kindsSound count least) w h 3 (omega (arith, length-drop at s)) (k, p)
+    (lead-got (drop at s) (omega (arith, length-drop at s)) ∙ ap (λ q. some (q, drop 3 (drop at s))) both)
+    ok' (kindsSound count (k + 1))
+    (λ l. ap (λ y. ok && (y && kindsSound count (suc k) l)) (sym ef) ∙ sym (and-assoc ok fine (kindsSound count (suc k) l)) ∙ ap (λ y. y && kindsSound count (suc k) l) (sym eo) ∙ ap (λ y. ok' && kindsSound count y l) (sym (add-one k)))
+  where
+    both : _≡_ {A = ℕ × ℕ} (getD (drop at s) 0 0, numberAt (drop at s) 1 2) (k, p)
+    both = ap (λ y. (y, numberAt (drop at s) 1 2)) (getD-drop at s 0 0 ∙ ap (λ i. getD s i 0) (add-zero at) ∙ sym ek) ∙ ap (λ y. (k, y)) (ap (λ t. bigEndian (take 2 t)) (drop-drop 1 at s) ∙ sym ep)
+
+pub positions-step : (count : ℕ) (s : List ℕ) (at left : ℕ) (ok : Bool) → Going (readList (readNumber 2) s) (readNumber 2) (positionsSound count) s at left ok (positionsSound count)
+    → 0 < left → 2 ≤ length s - at → (p : ℕ) → p ≡ numberAt s at 2 → (fine ok' : Bool) → fine ≡ ltb p count → ok' ≡ ok && fine
+    → Going (readList (readNumber 2) s) (readNumber 2) (positionsSound count) s (at + 2) (left - 1) ok' (positionsSound count)
+unfolding positionsSound
+positions-step count s at left ok w h g p ep fine ok' ef eo =
+    going-step _ (readNumber 2) (positionsSound count) s at left ok (positionsSound count) w h 2 (omega (arith, length-drop at s)) p
+    (number-got 2 (drop at s) (omega (arith, length-drop at s)) ∙ ap (λ q. some (q, drop 2 (drop at s))) (sym ep))
+    ok' (positionsSound count)
+    (λ l. ap (λ y. ok && (y && positionsSound count l)) (sym ef) ∙ sym (and-assoc ok fine (positionsSound count l)) ∙ ap (λ y. y && positionsSound count l) (sym eo))

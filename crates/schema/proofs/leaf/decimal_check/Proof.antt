@@ -1,0 +1,64 @@
+-- `schema::leaf::decimal_check` meets its contract. Assumes nothing.
+use borrow.Author.Needs.{needs}
+use native.Mathlib.Omega.{arith}
+use mathlib.Core.Path.{refl, ap}
+use lib.Dec.{eqb}
+use lib.ListN.{length, drop, length-drop}
+use Rattle.text.specs.Read.{readNumber, readText}
+use Rattle.frame.specs.Readers.{readList, readOption}
+use Rattle.frame.specs.Sound.{schemaSound, uuidSizeSound}
+use Rattle.schema.proofs.Reading.{Walking, walking-step, walking-none, walking-end, going-list, list-short, checks-none, checks-of, none-checks, held, measured-none, measured-of, none-measured, long, tail, number-got, number-short}
+use Rattle.schema.proofs.Leaves.{option-empty, option-zero, option-one-none, option-one-some, option-other, enum-got, enum-none, enum-later, fixed-got, fixed-none, decimal-none, decimal-got, decimal-checks, decimal-later, uuid-empty, uuid-bytes, uuid-string, uuid-short, uuid-fixed, uuid-other, duration-got, duration-none, plain-low, plain-high, kind-past}
+use Rattle.schema.proofs.leaf.decimal_check.Statement.{statement}
+use Rattle.schema.proofs.leaf.decimal_check.Tie as tie
+
+returns : tie.Need-returns
+returns c = λ node. checks-none _ _ _ (decimal-none node _ (c .if1 .taken))
+
+-- src/leaf.rt:95:38
+sub-option-size-len : tie.Need-sub-option-size-len
+sub-option-size-len c = search needs
+
+-- src/leaf.rt:95:38
+part-option-size-len-start : tie.Need-part-option-size-len-start
+part-option-size-len-start c = search needs
+
+-- src/leaf.rt:95:38
+part-option-size-len-end : tie.Need-part-option-size-len-end
+part-option-size-len-end c = search needs
+
+-- src/leaf.rt:95:22
+option-size-len-requires : tie.Need-option-size-len-requires
+option-size-len-requires c κs = search needs
+
+-- src/leaf.rt:95:17
+enum-known-m : tie.Need-enum-known-m
+enum-known-m c = search needs
+
+-- src/leaf.rt:96:9
+enum-told : tie.Need-enum-told
+enum-told c = search needs
+
+returns-2 : tie.Need-returns-2
+returns-2 c = λ node. checks-none _ _ _ (decimal-later node _ (c .before .before .before .before .if1 .left) (none-measured _ _ (rw (c .enum-told .given .1, tail) at (c .before .before .option-size-len .ensures))))
+
+add-t3 : tie.Need-add-t3
+add-t3 c = let h = long _ _ _ (rw (c .before .m .given .1, tail) at (c .before .before .before .option-size-len .ensures)) in omega (arith, h .inside, length-drop 8 (c .before .before .before .before .before .before .before .args .s .now), c .before .before .before .before .before .before .before .good)
+
+returns-3 : tie.Need-returns-3
+returns-3 c = λ node. decimal-checks node _ (c .before .before .before .before .before .if1 .left) _ (rw (c .before .m .given .1, tail) at (c .before .before .before .option-size-len .ensures))
+
+pub decimal-check-spec : {M : Type 1} → statement M
+decimal-check-spec =
+    tie.close
+    (tie.spec
+    returns
+    sub-option-size-len
+    part-option-size-len-start
+    part-option-size-len-end
+    option-size-len-requires
+    enum-known-m
+    enum-told
+    returns-2
+    add-t3
+    returns-3)

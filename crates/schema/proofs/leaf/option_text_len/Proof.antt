@@ -1,0 +1,77 @@
+-- `schema::leaf::option_text_len` meets its contract. Assumes nothing.
+use borrow.Author.Needs.{needs}
+use native.Mathlib.Omega.{arith}
+use mathlib.Core.Path.{refl, ap}
+use lib.Dec.{eqb}
+use lib.ListN.{length, drop, length-drop}
+use Rattle.text.specs.Read.{readNumber, readText}
+use Rattle.frame.specs.Readers.{readList, readOption}
+use Rattle.frame.specs.Sound.{schemaSound, uuidSizeSound}
+use Rattle.schema.proofs.Reading.{Walking, walking-step, walking-none, walking-end, going-list, list-short, checks-none, checks-of, none-checks, held, measured-none, measured-of, none-measured, long, tail, number-got, number-short}
+use Rattle.schema.proofs.Leaves.{option-empty, option-zero, option-one-none, option-one-some, option-measured, option-other, enum-got, enum-none, enum-later, fixed-got, fixed-none, decimal-none, decimal-got, decimal-later, uuid-empty, uuid-bytes, uuid-string, uuid-short, uuid-fixed, uuid-other, duration-got, duration-none, plain-low, plain-high, kind-past}
+use Rattle.schema.proofs.leaf.option_text_len.Statement.{statement}
+use Rattle.schema.proofs.leaf.option_text_len.Tie as tie
+
+returns : tie.Need-returns
+returns c = measured-none _ _ (option-empty _ _ (c .if1 .taken))
+
+-- src/leaf.rt:42:16
+shared-slice-read-flag : tie.Need-shared-slice-read-flag
+shared-slice-read-flag c = search needs
+
+returns-2 : tie.Need-returns-2
+returns-2 c = measured-of _ _ _ (omega arith) _ (option-zero _ _ (omega arith) (c .if2 .taken))
+
+-- src/leaf.rt:47:35
+sub-text-len : tie.Need-sub-text-len
+sub-text-len c = search needs
+
+-- src/leaf.rt:47:35
+part-text-len-start : tie.Need-part-text-len-start
+part-text-len-start c = search needs
+
+-- src/leaf.rt:47:35
+part-text-len-end : tie.Need-part-text-len-end
+part-text-len-end c = search needs
+
+-- src/leaf.rt:47:26
+text-len-requires : tie.Need-text-len-requires
+text-len-requires c κs = search needs
+
+-- src/leaf.rt:47:21
+enum-known-m : tie.Need-enum-known-m
+enum-known-m c = search needs
+
+-- src/leaf.rt:48:13
+enum-told : tie.Need-enum-told
+enum-told c = search needs
+
+returns-3 : tie.Need-returns-3
+returns-3 c = measured-none _ _ (option-one-none _ _ (omega arith) (c .before .before .before .before .if3 .taken) (none-measured _ _ (rw (c .enum-told .given .1, tail) at (c .before .before .text-len .ensures))))
+
+add-t10 : tie.Need-add-t10
+add-t10 c = let h = long _ _ _ (rw (c .before .m .given .1, tail) at (c .before .before .before .text-len .ensures)) in omega (arith, h .inside, length-drop 1 (c .before .before .before .before .before .before .before .before .before .before .args .s .now), c .before .before .before .before .before .before .before .before .before .before .good)
+
+returns-4 : tie.Need-returns-4
+returns-4 c = option-measured _ _ (omega (arith, c .before .before .before .before .before .before .before .before .if1 .left)) (c .before .before .before .before .before .if3 .taken) _ (rw (c .before .m .given .1, tail) at (c .before .before .before .text-len .ensures))
+
+returns-5 : tie.Need-returns-5
+returns-5 c = measured-none _ _ (option-other _ _ (omega arith) (c .before .if2 .left) (c .if3 .left))
+
+pub option-text-len-spec : {M : Type 1} → statement M
+option-text-len-spec =
+    tie.close
+    (tie.spec
+    returns
+    shared-slice-read-flag
+    returns-2
+    sub-text-len
+    part-text-len-start
+    part-text-len-end
+    text-len-requires
+    enum-known-m
+    enum-told
+    returns-3
+    add-t10
+    returns-4
+    returns-5)

@@ -1,0 +1,26 @@
+-- What the parts of a record are asked one by one, and what they are asked together.
+use mathlib.Core.List.{List, [], _∷_}
+use mathlib.Core.Option.{Option}
+use mathlib.Core.Bool.{Bool, true, _&&_, not}
+use Rattle.text.specs.Text.{Text}
+use Rattle.frame.specs.Tree.{Value, Schema}
+use Rattle.frame.specs.SchemaFrame.{fieldsOf, variantsOf}
+use Rattle.frame.specs.Sound.{schemaSound, variantsSound, defaultAllowed, hasField}
+
+abbrev pub Field : Type 0
+Field = Text × Option Value × Schema
+
+abbrev pub fieldSound : Field → Bool
+fieldSound f = defaultAllowed (f .1) && schemaSound (f .2)
+
+unfoldable pub eachSound : List Field → Bool
+eachSound [] = true
+eachSound (f ∷ fs) = fieldSound f && eachSound fs
+
+-- no name stands again among the later fields
+unfoldable pub namesDiffer : List Field → Bool
+namesDiffer [] = true
+namesDiffer (f ∷ fs) = not (hasField (f .0) (fieldsOf fs)) && namesDiffer fs
+
+abbrev pub noUnions : List Schema → Bool
+noUnions vs = variantsSound (variantsOf vs)

@@ -1,0 +1,14 @@
+// Schema frames: reading them, and what is sound in them.
+mod check;
+mod default;
+mod leaf;
+mod names;
+mod part;
+mod skip;
+mod table;
+mod whole;
+
+pub use check::schema_check;
+pub use skip::field_len;
+pub use skip::schema_len;
+pub use whole::schema_frame;

@@ -1,0 +1,50 @@
+-- Enum schemas as they stand in a frame, and what the search for a symbol answers.
+use Prim.Native.Nat.{ℕ, _+_}
+use mathlib.Core.List.{List}
+use mathlib.Core.Option.{Option, none, some}
+use Rattle.base.specs.Base.{Result, ok, no}
+use Rattle.text.specs.Text.{Text}
+use Rattle.text.specs.Read.{Read, _>>=_, readText}
+use Rattle.frame.specs.Tree.{Value, Schema}
+use Rattle.frame.specs.Readers.{readList, readOption}
+use Rattle.types.specs.Types.{Outcome, position, enumAt, orDefault, resolve-enum}
+use Rattle.types.specs.declared.octets.Place.{Place}
+use Rattle.types.specs.declared.octets.Place.the-variants.{At, Nowhere}
+
+-- symbols and default, behind an Enum schema's kind
+unfoldable pub readSymbols : List ℕ → Read (List Text × Option Text)
+readSymbols s = do
+  (ss, r) ← readList readText s
+  (d, t) ← readOption readText r
+  some ((ss, d), t)
+
+-- a place counted from i on
+unfoldable pub placeFrom : ℕ → Option ℕ → Place
+placeFrom i none = Nowhere
+placeFrom i (some j) = At (i + j)
+
+-- the first place of a text among texts that were read, counted from i on
+unfoldable pub placeIn : ℕ → Text → Read (List Text) → Place
+placeIn i x none = Nowhere
+placeIn i x (some l) = placeFrom i (position x (l .0))
+
+-- a symbol at its place, or else the default at its own
+unfoldable pub symbolOf : Text → List Text × Option Text → Outcome
+symbolOf t e = orDefault (e .0) (e .1) (enumAt t (position t (e .0)))
+
+-- the default, where there is one
+unfoldable pub defaultOf : List Text × Option Text → Outcome
+defaultOf e = orDefault (e .0) (e .1) (no 15)
+
+-- resolve_enum at an Enum schema; no other schema comes here
+unfoldable pub resolveEnumAt : Schema → Value → Outcome
+resolveEnumAt (Schema.Plain k) v = no 0
+resolveEnumAt (Schema.Fixed n) v = no 0
+resolveEnumAt (Schema.Decimal p c n) v = no 0
+resolveEnumAt (Schema.Uuid f) v = no 0
+resolveEnumAt (Schema.Duration n) v = no 0
+resolveEnumAt (Schema.Enum ss d) v = resolve-enum ss d v
+resolveEnumAt (Schema.Array s) v = no 0
+resolveEnumAt (Schema.Map s) v = no 0
+resolveEnumAt (Schema.Record fs) v = no 0
+resolveEnumAt (Schema.Union vs ks ns) v = no 0

@@ -1,0 +1,5 @@
+pub mod ReaderLaws
+pub mod ShapeLaws
+pub mod NodeLaws
+pub mod MapLaws
+pub mod SkipLaws
