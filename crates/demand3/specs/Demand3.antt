@@ -27,7 +27,7 @@ onlyNullLeadsTo p (e ∷ es) = Bool·beq (eqb (e .0) Kind.Null) (eqb (e .1) p) &
 abbrev pub isNull : Schema → Bool
 isNull s = eqb (schemaKind s) Kind.Null
 
--- Null and one variant that isn't Null
+-- a nullable pair (document 01's term): Null and one variant that isn't Null, with such a kind table
 unfoldable pub nullablePair : Variants → List (ℕ × ℕ) → Bool
 nullablePair noVariants ks = false
 nullablePair (variant a noVariants) ks = false
@@ -74,7 +74,7 @@ symbolAt (s ∷ ss) zero t = same s t
 symbolAt (s ∷ ss) (suc i) t = symbolAt ss i t
 
 unfoldable mutual
-  -- kinds and sizes are equal, but for a Decimal's length; exactly the schema's field names in each Record, in schema order;
+  -- a value fits a schema (document 01's term): kinds and sizes are equal, but for a Decimal's length; exactly the schema's field names in each Record, in schema order;
   -- each symbol is the one at its index; each Union fits the variant at its index
   pub fits : Schema → Value → Bool
   fits (Schema.Plain k) v = is k v
@@ -107,7 +107,7 @@ fieldMeeting (some v) d onValue onDefault = onValue v
 fieldMeeting none none onValue onDefault = true
 fieldMeeting none (some d) onValue onDefault = onDefault d
 
--- P holds of each kind of schema and value that meet, the value once peeled
+-- P holds of each kind of schema and value that meet (document 01's term), the value once peeled
 module _ (P : ℕ → Value → Bool) where
   unfoldable mutual
     pub meetings : Schema → Value → Bool
@@ -267,7 +267,7 @@ Repeats =
     (schema value result : List ℕ) → Accepted schema value result
     → (calls : List (ℕ × ℕ)) → T (longEnough result calls) → repeats schema calls result ≡ ok result
 
--- two value frames, neither stopped by 5, that are equal once stripped
+-- two value frames that are alike (document 01's term): neither stopped by 5, and equal once stripped
 pub record AreAlike (schema : Schema) (a b : List ℕ) : Type 0 where
   pub left : Value
   pub right : Value

@@ -3,3 +3,4 @@ pub mod ReadHeld
 pub mod ReadBack
 pub mod Inside
 pub mod Peel
+pub mod Depth

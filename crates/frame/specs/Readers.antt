@@ -36,7 +36,7 @@ readOption p s = do
     (a, t) ← p r
     some (some a, t)
 
--- the whole of a frame, 1 to 65,535 bytes, and nothing behind it
+-- a frame (document 01's term): 1 to 65,535 bytes, and nothing behind what is read
 unfoldable pub whole : {A : Type 0} → (List ℕ → Read A) → List ℕ → Option A
 whole p s = if ltb 65535 (length s) then none else do
   (a, r) ← p s
