@@ -5,7 +5,6 @@ use borrow.Author.Needs.{needs}
 use Rattle.bytewise.proofs.in_byte.Statement.{statement}
 use Rattle.bytewise.proofs.in_byte.Tie as tie
 
--- src/lib.rt:26:25
 cast-t3 : tie.Need-cast-t3
 cast-t3 c = search needs
 

@@ -19,7 +19,6 @@ shared-slice-read-k c = node-there _ _ (c .before .before .pre)
 read4-requires : tie.Need-read4-requires
 read4-requires c κs = wide-node _ _ (c .before .before .before .pre) 2 4 int-content (c .if1 .taken) .0
 
--- src/lib.rt:38:9
 in-byte-requires : tie.Need-in-byte-requires
 in-byte-requires c κs = search needs
 
@@ -29,22 +28,18 @@ returns c = byte-answer intByte _ _ _ _ _ (wide-node _ _ (c .before .before .bef
 read8-requires : tie.Need-read8-requires
 read8-requires c κs = wide-node _ _ (c .before .before .before .before .pre) 3 8 long-content (c .if2 .taken) .0
 
--- src/lib.rt:41:15
 long-to-int-requires : tie.Need-long-to-int-requires
 long-to-int-requires c κs = search needs
 
--- src/lib.rt:42:26
 enum-known-n : tie.Need-enum-known-n
 enum-known-n c = search needs
 
--- src/lib.rt:42:32
 in-byte-requires-2 : tie.Need-in-byte-requires-2
 in-byte-requires-2 c κs = search needs
 
 returns-2 : tie.Need-returns-2
 returns-2 c = byte-answer intByte _ _ _ _ _ (wide-node _ _ (c .before .before .before .before .before .before .before .before .before .before .pre) 3 8 long-content (c .before .before .before .before .before .before .if2 .taken) .1) (long-is _ _ (ap narrowed (sym (c .before .before .before .before .before .read8 .ensures)) ∙ sym (c .before .before .before .before .long-to-int .ensures) ∙ c .before .before .n .given .1)) (c .in-byte2 .ensures)
 
--- src/lib.rt:43:37
 enum-told : tie.Need-enum-told
 enum-told c = search needs
 

@@ -19,7 +19,6 @@ sub-int-byte c = omega (arith, union-node _ _ (c .before .before .before .pre) (
 part-int-byte-start : tie.Need-part-int-byte-start
 part-int-byte-start c = omega (arith, union-node _ _ (c .before .before .before .pre) (c .if1 .taken) .inside)
 
--- src/lib.rt:55:25
 part-int-byte-end : tie.Need-part-int-byte-end
 part-int-byte-end c = search needs
 
@@ -32,7 +31,6 @@ int-byte-requires c κs = union-reads _ _ (c .before .before .before .before .pr
 returns : tie.Need-returns
 returns c = union-answer _ _ (c .before .before .before .before .before .pre) (c .before .before .if1 .taken) _ (suffix 5 (c .before .before .before .before .before .args .v .now)) _ (c .int-byte .ensures)
 
--- src/lib.rt:57:5
 int-byte-requires-2 : tie.Need-int-byte-requires-2
 int-byte-requires-2 c κs = search needs
 

@@ -16,11 +16,9 @@ use Rattle.resolution.proofs.resolve.resolve_node.Reads as resolve-node-reads
 resolve-node-requires : tie.Need-resolve-node-requires
 resolve-node-requires c κs = passed-ready (c .before .before .before .before .before .args .schema .now) (c .before .before .before .before .before .args .«record» .now) (c .before .before .before .before .before .pre .0)
 
--- src/lib.rt:69:26
 enum-known-n : tie.Need-enum-known-n
 enum-known-n c = search needs
 
--- src/lib.rt:71:17
 same-length : tie.Need-same-length
 same-length c = search needs
 
@@ -28,7 +26,6 @@ returns : tie.Need-returns
 unfolding resolvedOf bufferAfter
 returns c = rw (chain-over (c .before .before .before .before .before .before .before .before .before .before .before .before .args .schema .now) (c .before .before .before .before .before .before .before .before .before .before .before .before .args .«record» .now) (c .before .before .before .before .before .before .before .before .before .before .before .before .pre .0) (length (c .before .before .before .before .before .before .before .before .before .before .before .before .args .result .now)) _ _ (rw (c .before .before .n .given .1) at (c .before .before .before .before .before .before .resolve-node .ensures)) (c .if1 .taken)) (refl, refl)
 
--- src/lib.rt:74:17
 same-length-2 : tie.Need-same-length-2
 same-length-2 c = search needs
 
@@ -36,7 +33,6 @@ returns-2 : tie.Need-returns-2
 unfolding resolvedOf bufferAfter
 returns-2 c = rw (chain-short (c .before .before .before .before .before .before .before .before .before .before .before .before .before .args .schema .now) (c .before .before .before .before .before .before .before .before .before .before .before .before .before .args .«record» .now) (c .before .before .before .before .before .before .before .before .before .before .before .before .before .pre .0) (length (c .before .before .before .before .before .before .before .before .before .before .before .before .before .args .result .now)) _ _ (rw (c .before .before .before .n .given .1) at (c .before .before .before .before .before .before .before .resolve-node .ensures)) (c .before .if1 .left) (c .if2 .taken)) (refl, refl)
 
--- src/lib.rt:76:34
 slice-reshare-prefix-copy : tie.Need-slice-reshare-prefix-copy
 slice-reshare-prefix-copy c = search needs
 
@@ -51,22 +47,18 @@ copy-requires c κs =
     let t : length (take (c .before .before .before .before .before .n .given .0 .0) (c .before .before .before .before .before .before .before .before .before .resolve-node .last .1 .1 .0)) ≡ c .before .before .before .before .before .n .given .0 .0 = length-take-le (c .before .before .before .before .before .n .given .0 .0) (c .before .before .before .before .before .before .before .before .before .resolve-node .last .1 .1 .0) (omega (arith, c .before .before .before .if1 .left)) in
     omega (arith, c .before .before .if2 .left)
 
--- src/lib.rt:79:25
 enum-known-e : tie.Need-enum-known-e
 enum-known-e c = search needs
 
--- src/lib.rt:63:1
 same-length-3 : tie.Need-same-length-3
 same-length-3 c = search needs
 
--- src/lib.rt:63:1
 same-length-4 : tie.Need-same-length-4
 same-length-4 c = search needs
 
 returns-3 : tie.Need-returns-3
 returns-3 c = handed (c .before .before .before .before .before .before .before .before .before .before .before .before .before .before .before .before .before .before .args .schema .now) (c .before .before .before .before .before .before .before .before .before .before .before .before .before .before .before .before .before .before .args .«record» .now) (c .before .before .before .before .before .before .before .before .before .before .before .before .before .before .before .before .before .before .pre .0) (c .before .before .before .before .before .before .before .before .before .before .before .before .before .before .before .before .before .before .args .result .now) (c .before .before .copy .last .0) (c .before .before .before .before .before .before .before .before .before .before .before .before .resolve-node .last .1 .1 .0) (c .before .before .before .before .before .before .before .before .n .given .0 .0) (rw (c .before .before .before .before .before .before .before .before .n .given .1) at (c .before .before .before .before .before .before .before .before .before .before .before .before .resolve-node .ensures)) (c .before .before .before .before .before .before .if1 .left) (c .before .before .before .before .before .if2 .left) (c .before .before .before .before .before .before .before .before .before .before .before .before .resolve-node .kept .1 .1 .0 ∙ c .before .before .before .before .before .before .before .before .before .before .before .before .before .before .before .before .before .before .pre .1) (c .before .before .copy .ensures)
 
--- src/lib.rt:63:1
 same-length-5 : tie.Need-same-length-5
 same-length-5 c = search needs
 

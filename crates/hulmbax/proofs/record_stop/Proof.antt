@@ -7,19 +7,15 @@ use Rattle.hulmbax.proofs.record_stop.Reads as reads
 use Rattle.hulmbax.proofs.record_stop.Lts as lts
 use Rattle.value.proofs.value_frame.Reads as value-frame-reads
 
--- src/lib.rt:55:11
 value-frame-requires : tie.Need-value-frame-requires
 value-frame-requires c κs = search needs
 
--- src/lib.rt:56:29
 enum-told : tie.Need-enum-told
 enum-told c = search needs
 
--- src/lib.rt:57:29
 enum-told-2 : tie.Need-enum-told-2
 enum-told-2 c = search needs
 
--- src/lib.rt:58:27
 enum-told-3 : tie.Need-enum-told-3
 enum-told-3 c = search needs
 

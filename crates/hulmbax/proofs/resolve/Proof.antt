@@ -15,7 +15,6 @@ use Rattle.hulmbax.proofs.resolve_in.Reads as resolve-in-reads
 returns : tie.Need-returns
 returns c = too-short (c .before .before .before .before .before .args .schema .now) (c .before .before .before .before .before .args .«record» .now) (c .before .before .before .before .before .args .result .now) (c .before .before .before .before .before .args .workspace .now) (c .if1 .taken)
 
--- src/lib.rt:108:48
 slice-relend-prefix-resolve-in : tie.Need-slice-relend-prefix-resolve-in
 slice-relend-prefix-resolve-in c = search needs
 
@@ -25,7 +24,6 @@ slice-aggregate-resolve-in c = sym (length-take-le 65536 (c .before .before .bef
 resolve-in-requires : tie.Need-resolve-in-requires
 resolve-in-requires c κs = length-take-le 65536 (c .before .before .before .before .before .before .before .args .workspace .now) (c .before .before .if1 .left)
 
--- src/lib.rt:109:11
 slice-relend-prefix-clear : tie.Need-slice-relend-prefix-clear
 slice-relend-prefix-clear c = search needs
 
@@ -36,15 +34,12 @@ slice-aggregate-clear c =
     let ly : length y ≡ 65536 = c .before .before .before .before .before .resolve-in .kept .1 .1 .1 .0 ∙ length-take-le 65536 w (c .before .before .before .before .before .before .before .before .if1 .left) in
     sym (ap length (take-at y (drop 65536 w) 65536 ly) ∙ ly)
 
--- src/lib.rt:109:5
 clear-requires : tie.Need-clear-requires
 clear-requires c κs = search needs
 
--- src/lib.rt:100:1
 same-length : tie.Need-same-length
 same-length c = search needs
 
--- src/lib.rt:100:1
 same-length-2 : tie.Need-same-length-2
 same-length-2 c = search needs
 

@@ -11,22 +11,18 @@ use Rattle.hulmbax.proofs.hand_over.Reads as hand-over-reads
 use Rattle.hulmbax.proofs.record_stop.Reads as record-stop-reads
 use Rattle.hulmbax.proofs.schema_stop.Reads as schema-stop-reads
 
--- src/lib.rt:89:9
 schema-stop-requires : tie.Need-schema-stop-requires
 schema-stop-requires c κs = search needs
 
--- src/lib.rt:91:9
 same-length : tie.Need-same-length
 same-length c = search needs
 
 returns : tie.Need-returns
 returns c = stopped-schema (c .before .before .before .before .before .before .before .before .before .args .schema .now) (c .before .before .before .before .before .before .before .before .before .args .«record» .now) (c .before .before .before .before .before .before .before .before .before .args .result .now) _ (c .before .before .before .schema-stop .ensures) (c .if1 .taken)
 
--- src/lib.rt:93:9
 record-stop-requires : tie.Need-record-stop-requires
 record-stop-requires c κs = search needs
 
--- src/lib.rt:95:9
 same-length-2 : tie.Need-same-length-2
 same-length-2 c = search needs
 
@@ -36,11 +32,9 @@ returns-2 c = stopped-value (c .before .before .before .before .before .before .
 hand-over-requires : tie.Need-hand-over-requires
 hand-over-requires c κs = (passed (c .before .before .before .before .before .before .before .before .before .before .before .before .before .args .schema .now) (c .before .before .before .before .before .before .before .before .before .before .before .before .before .args .«record» .now) _ _ (c .before .before .before .before .before .before .before .schema-stop .ensures) (c .before .before .before .before .if1 .left) (c .before .before .before .record-stop .ensures) (c .before .before .if2 .left), c .before .before .before .before .before .before .before .schema-stop .kept .1 .0 ∙ c .before .before .before .before .before .before .before .before .before .before .before .before .before .pre)
 
--- src/lib.rt:84:1
 same-length-3 : tie.Need-same-length-3
 same-length-3 c = search needs
 
--- src/lib.rt:84:1
 same-length-4 : tie.Need-same-length-4
 same-length-4 c = search needs
 

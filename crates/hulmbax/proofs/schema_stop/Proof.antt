@@ -9,19 +9,15 @@ use Rattle.hulmbax.proofs.schema_stop.Lts as lts
 use Rattle.resolution.proofs.defaults.defaults_short.Reads as defaults-short-reads
 use Rattle.schema.proofs.schema_frame.Reads as schema-frame-reads
 
--- src/lib.rt:38:11
 schema-frame-requires : tie.Need-schema-frame-requires
 schema-frame-requires c κs = search needs
 
--- src/lib.rt:39:29
 enum-told : tie.Need-enum-told
 enum-told c = search needs
 
--- src/lib.rt:40:29
 enum-told-2 : tie.Need-enum-told-2
 enum-told-2 c = search needs
 
--- src/lib.rt:42:45
 enum-told-3 : tie.Need-enum-told-3
 enum-told-3 c = search needs
 
@@ -34,14 +30,12 @@ returns c = stop-no-schema (c .before .before .before .before .before .args .sch
 returns-2 : tie.Need-returns-2
 returns-2 c = stop-unsound (c .before .before .before .before .before .args .schema .now) (sym (c .enum-told2 .given .1) ∙ c .before .before .schema-frame .ensures)
 
--- src/lib.rt:35:1
 same-length : tie.Need-same-length
 same-length c = search needs
 
 returns-3 : tie.Need-returns-3
 returns-3 c = sym (stop-by-defaults (c .before .before .before .before .before .before .before .before .before .before .args .schema .now) _ (sound-frame (c .before .before .before .before .before .before .before .before .before .before .args .schema .now) (sym (c .before .before .before .before .before .enum-told3 .given .1) ∙ c .before .before .before .before .before .before .before .schema-frame .ensures)) (sym (c .if1 .taken) ∙ c .before .before .before .defaults-short .ensures))
 
--- src/lib.rt:35:1
 same-length-2 : tie.Need-same-length-2
 same-length-2 c = search needs
 

@@ -13,31 +13,24 @@ use Rattle.number.proofs.put2.Tie as tie
 use Rattle.number.proofs.put2.Reads as reads
 use Rattle.number.proofs.put2.Lts as lts
 
--- src/lib.rt:33:13
 cast-b : tie.Need-cast-b
 cast-b c = search needs
 
--- src/lib.rt:33:5
 slice-write-b : tie.Need-slice-write-b
 slice-write-b c = search needs
 
--- src/lib.rt:34:17
 cast-b-2 : tie.Need-cast-b-2
 cast-b-2 c = search needs
 
--- src/lib.rt:34:7
 add-b : tie.Need-add-b
 add-b c = search needs
 
--- src/lib.rt:34:5
 slice-write-b-2 : tie.Need-slice-write-b-2
 slice-write-b-2 c = simp length-set (omega arith)
 
--- src/lib.rt:29:1
 same-length : tie.Need-same-length
 same-length c = search needs
 
--- src/lib.rt:29:1
 returns : tie.Need-returns
 unfolding bytesOf
 returns c =

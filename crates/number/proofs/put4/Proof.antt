@@ -10,31 +10,24 @@ use Rattle.number.proofs.put4.Reads as reads
 use Rattle.number.proofs.put4.Lts as lts
 use Rattle.number.proofs.put2.Reads as put2-reads
 
--- src/lib.rt:41:17
 cast-put2 : tie.Need-cast-put2
 cast-put2 c = search needs
 
--- src/lib.rt:41:5
 put2-requires : tie.Need-put2-requires
 put2-requires c κs = search needs
 
--- src/lib.rt:42:13
 add-put2 : tie.Need-add-put2
 add-put2 c = search needs
 
--- src/lib.rt:42:21
 cast-put2-2 : tie.Need-cast-put2-2
 cast-put2-2 c = search needs
 
--- src/lib.rt:42:5
 put2-requires-2 : tie.Need-put2-requires-2
 put2-requires-2 c κs = search needs
 
--- src/lib.rt:37:1
 same-length : tie.Need-same-length
 same-length c = search needs
 
--- src/lib.rt:37:1
 returns : tie.Need-returns
 returns c =
     let a = c .before .before .before .before .before .before .before .before .before .args in

@@ -10,31 +10,24 @@ use Rattle.number.proofs.put8.Reads as reads
 use Rattle.number.proofs.put8.Lts as lts
 use Rattle.number.proofs.put4.Reads as put4-reads
 
--- src/lib.rt:49:17
 cast-put4 : tie.Need-cast-put4
 cast-put4 c = search needs
 
--- src/lib.rt:49:5
 put4-requires : tie.Need-put4-requires
 put4-requires c κs = search needs
 
--- src/lib.rt:50:13
 add-put4 : tie.Need-add-put4
 add-put4 c = search needs
 
--- src/lib.rt:50:21
 cast-put4-2 : tie.Need-cast-put4-2
 cast-put4-2 c = search needs
 
--- src/lib.rt:50:5
 put4-requires-2 : tie.Need-put4-requires-2
 put4-requires-2 c κs = search needs
 
--- src/lib.rt:45:1
 same-length : tie.Need-same-length
 same-length c = search needs
 
--- src/lib.rt:45:1
 returns : tie.Need-returns
 returns c =
     let a = c .before .before .before .before .before .before .before .before .before .args in

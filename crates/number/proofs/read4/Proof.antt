@@ -10,35 +10,27 @@ use Rattle.number.proofs.read4.Reads as reads
 use Rattle.number.proofs.read4.Lts as lts
 use Rattle.number.proofs.read2.Reads as read2-reads
 
--- src/lib.rt:19:6
 read2-requires : tie.Need-read2-requires
 read2-requires c κs = search needs
 
--- src/lib.rt:19:6
 cast-result : tie.Need-cast-result
 cast-result c = search needs
 
--- src/lib.rt:19:5
 mul-result : tie.Need-mul-result
 mul-result c = search needs
 
--- src/lib.rt:19:47
 add-read2 : tie.Need-add-read2
 add-read2 c = search needs
 
--- src/lib.rt:19:38
 read2-requires-2 : tie.Need-read2-requires-2
 read2-requires-2 c κs = search needs
 
--- src/lib.rt:19:38
 cast-result-2 : tie.Need-cast-result-2
 cast-result-2 c = search needs
 
--- src/lib.rt:19:5
 add-result : tie.Need-add-result
 add-result c = search needs
 
--- src/lib.rt:15:1
 returns : tie.Need-returns
 returns c =
     let a = c .before .before .before .args in

@@ -10,35 +10,27 @@ use Rattle.number.proofs.read8.Reads as reads
 use Rattle.number.proofs.read8.Lts as lts
 use Rattle.number.proofs.read4.Reads as read4-reads
 
--- src/lib.rt:26:6
 read4-requires : tie.Need-read4-requires
 read4-requires c κs = search needs
 
--- src/lib.rt:26:6
 cast-result : tie.Need-cast-result
 cast-result c = search needs
 
--- src/lib.rt:26:5
 mul-result : tie.Need-mul-result
 mul-result c = search needs
 
--- src/lib.rt:26:52
 add-read4 : tie.Need-add-read4
 add-read4 c = search needs
 
--- src/lib.rt:26:43
 read4-requires-2 : tie.Need-read4-requires-2
 read4-requires-2 c κs = search needs
 
--- src/lib.rt:26:43
 cast-result-2 : tie.Need-cast-result-2
 cast-result-2 c = search needs
 
--- src/lib.rt:26:5
 add-result : tie.Need-add-result
 add-result c = search needs
 
--- src/lib.rt:22:1
 returns : tie.Need-returns
 returns c =
     let a = c .before .before .before .args in

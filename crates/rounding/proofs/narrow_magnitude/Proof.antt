@@ -13,52 +13,41 @@ use Rattle.rounding.proofs.narrow_magnitude.Reads as reads
 use Rattle.rounding.proofs.narrow_magnitude.Lts as lts
 use Rattle.rounding.proofs.nearest_quotient.Reads as nearest-quotient-reads
 
--- src/lib.rt:61:13
 add-t : tie.Need-add-t
 add-t c = search needs
 
--- src/lib.rt:63:9
 returns : tie.Need-returns
 returns c = sym (overflows (c .before .args .m) (c .if1 .taken))
 
--- src/lib.rt:66:13
 nearest-quotient-requires : tie.Need-nearest-quotient-requires
 nearest-quotient-requires c κs = search needs
 
--- src/lib.rt:67:17
 mul-result : tie.Need-mul-result
 mul-result c = search needs
 
--- src/lib.rt:67:17
 add-result : tie.Need-add-result
 add-result c = omega (arith, kept-fits (c .before .before .before .args .m))
 
--- src/lib.rt:67:16
 cast-result : tie.Need-cast-result
 cast-result c = omega (arith, kept-fits (c .before .before .before .args .m))
 
--- src/lib.rt:67:9
 returns-2 : tie.Need-returns-2
 returns-2 c =
     let m = c .before .before .before .args .m in
     ap (λ (q : ℕ). (m / 2 ^ 52 - 897) * 8388608 + q) (c .nearest-quotient .ensures)
     ∙ sym (is-normal m (c .before .if2 .taken) (c .before .before .if1 .left))
 
--- src/lib.rt:70:45
 sub-nearest-quotient : tie.Need-sub-nearest-quotient
 sub-nearest-quotient c = search needs
 
--- src/lib.rt:70:36
 shl-nearest-quotient : tie.Need-shl-nearest-quotient
 shl-nearest-quotient c = search needs
 
--- src/lib.rt:70:16
 nearest-quotient-requires-2 : tie.Need-nearest-quotient-requires-2
 nearest-quotient-requires-2 c κs =
     let f = powers (926 - c .before .before .before .args .m / 2 ^ 52) (omega arith) (omega arith) in
     (f .0, f .1, f .2, omega arith)
 
--- src/lib.rt:70:16
 cast-result-2 : tie.Need-cast-result-2
 cast-result-2 c =
     let m = c .before .before .before .before .args .m in
@@ -66,7 +55,6 @@ cast-result-2 c =
     c .nearest-quotient2 .ensures ∙ ap (λ (d : ℕ). closest (m % 2 ^ 52 + 2 ^ 52) d) (one-shl (926 - m / 2 ^ 52) (omega arith)) in
     omega (arith, low-fits m (c .before .before .if2 .left))
 
--- src/lib.rt:70:9
 returns-3 : tie.Need-returns-3
 returns-3 c =
     let m = c .before .before .before .before .args .m in
@@ -74,7 +62,6 @@ returns-3 c =
     ∙ ap (λ (d : ℕ). closest (m % 2 ^ 52 + 2 ^ 52) d) (one-shl (926 - m / 2 ^ 52) (omega arith))
     ∙ sym (is-subnormal m (c .before .if3 .taken) (c .before .before .if2 .left))
 
--- src/lib.rt:56:1
 returns-4 : tie.Need-returns-4
 returns-4 c = sym (is-nothing (c .before .before .before .args .m) (c .if3 .left))
 

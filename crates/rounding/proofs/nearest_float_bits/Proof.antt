@@ -20,16 +20,13 @@ use Rattle.rounding.proofs.nearest_float_bits.Reads as reads
 use Rattle.rounding.proofs.nearest_float_bits.Lts as lts
 use Rattle.rounding.proofs.nearest_quotient.Reads as nearest-quotient-reads
 
--- src/lib.rt:47:29
 int-to-float-result : tie.Need-int-to-float-result
 unfolding inFloat
 int-to-float-result c = le→leb (c .before .before .args .n) (2 ^ 24) (c .before .if1 .taken)
 
--- src/lib.rt:47:16
 float-to-bits-result : tie.Need-float-to-bits-result
 float-to-bits-result c = subst (λ (t : Bool). T (not t)) (sym (int-no-nan binary32 (pos (c .before .before .args .n)))) tt
 
--- src/lib.rt:47:9
 returns : tie.Need-returns
 unfolding ofInteger
 returns c =
@@ -47,42 +44,33 @@ taken c =
     let z = leadingZeros 64 n in
     c .nearest-quotient .ensures ∙ ap (λ (d : ℕ). closest n d) (one-shl (40 - z) (omega arith))
 
--- src/lib.rt:49:19
 cast-k : tie.Need-cast-k
 cast-k c = omega (arith, above c .zeros)
 
--- src/lib.rt:49:13
 sub-k : tie.Need-sub-k
 sub-k c = omega (arith, above c .zeros)
 
--- src/lib.rt:50:33
 shl-nearest-quotient : tie.Need-shl-nearest-quotient
 shl-nearest-quotient c = search needs
 
--- src/lib.rt:50:9
 nearest-quotient-requires : tie.Need-nearest-quotient-requires
 nearest-quotient-requires c κs =
     let z = leadingZeros 64 (c .before .args .n) in
     let f = powers (40 - z) (omega (arith, above c .zeros)) (omega arith) in
     (f .0, f .1, f .2, omega arith)
 
--- src/lib.rt:51:7
 add-result : tie.Need-add-result
 add-result c = search needs
 
--- src/lib.rt:51:6
 mul-result : tie.Need-mul-result
 mul-result c = search needs
 
--- src/lib.rt:51:6
 add-result-2 : tie.Need-add-result-2
 add-result-2 c = omega (arith, above (c .before) .kept, taken c)
 
--- src/lib.rt:51:5
 cast-result : tie.Need-cast-result
 cast-result c = omega (arith, above (c .before) .kept, taken c)
 
--- src/lib.rt:42:1
 returns-2 : tie.Need-returns-2
 returns-2 c =
     let z = leadingZeros 64 (c .before .before .args .n) in

@@ -13,19 +13,15 @@ use Rattle.rounding.proofs.of_twos32.Tie as tie
 use Rattle.rounding.proofs.of_twos32.Reads as reads
 use Rattle.rounding.proofs.of_twos32.Lts as lts
 
--- src/lib.rt:136:9
 cast-result : tie.Need-cast-result
 cast-result c = search needs
 
--- src/lib.rt:138:16
 sub-result : tie.Need-sub-result
 sub-result c = search needs
 
--- src/lib.rt:138:15
 cast-result-2 : tie.Need-cast-result-2
 cast-result-2 c = search needs
 
--- src/lib.rt:138:9
 small : (b : ℕ) → 2 ^ 31 ≤ b → 0xffff_ffff - b < 2 ^ 31
 small b h = omega arith
 
@@ -35,11 +31,9 @@ one-less b = omega arith
 sub-result-2 : tie.Need-sub-result-2
 sub-result-2 c = down-fits w32 (0xffff_ffff - c .before .args .b) (small (c .before .args .b) (c .if1 .left))
 
--- src/lib.rt:132:1
 returns : tie.Need-returns
 returns c = search needs
 
--- src/lib.rt:132:1
 returns-2 : tie.Need-returns-2
 returns-2 c =
     let b = c .before .args .b in

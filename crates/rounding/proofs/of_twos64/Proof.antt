@@ -13,19 +13,15 @@ use Rattle.rounding.proofs.of_twos64.Tie as tie
 use Rattle.rounding.proofs.of_twos64.Reads as reads
 use Rattle.rounding.proofs.of_twos64.Lts as lts
 
--- src/lib.rt:157:9
 cast-result : tie.Need-cast-result
 cast-result c = search needs
 
--- src/lib.rt:159:16
 sub-result : tie.Need-sub-result
 sub-result c = search needs
 
--- src/lib.rt:159:15
 cast-result-2 : tie.Need-cast-result-2
 cast-result-2 c = search needs
 
--- src/lib.rt:159:9
 small : (b : ℕ) → 2 ^ 63 ≤ b → 0xffff_ffff_ffff_ffff - b < 2 ^ 63
 small b h = omega arith
 
@@ -35,11 +31,9 @@ one-less b = omega arith
 sub-result-2 : tie.Need-sub-result-2
 sub-result-2 c = down-fits w64 (0xffff_ffff_ffff_ffff - c .before .args .b) (small (c .before .args .b) (c .if1 .left))
 
--- src/lib.rt:153:1
 returns : tie.Need-returns
 returns c = search needs
 
--- src/lib.rt:153:1
 returns-2 : tie.Need-returns-2
 returns-2 c =
     let b = c .before .args .b in

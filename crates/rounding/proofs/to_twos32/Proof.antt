@@ -14,7 +14,6 @@ use Rattle.rounding.proofs.to_twos32.Tie as tie
 use Rattle.rounding.proofs.to_twos32.Reads as reads
 use Rattle.rounding.proofs.to_twos32.Lts as lts
 
--- src/lib.rt:146:9
 upper : (c : tie.Then1) → Plain w32 (c .before .args .n)
 upper c = plain w32 (c .before .args .n) (lit≤ tt) (c .before .fits .n) (c .if1 .taken)
 
@@ -33,27 +32,21 @@ one-less k = omega arith
 cast-result : tie.Need-cast-result
 cast-result c = upper c .0
 
--- src/lib.rt:148:30
 add-result : tie.Need-add-result
 add-result c = lower c .0
 
--- src/lib.rt:148:25
 sub-result : tie.Need-sub-result
 sub-result c = lower c .1
 
--- src/lib.rt:148:24
 cast-result-2 : tie.Need-cast-result-2
 cast-result-2 c = lower c .2
 
--- src/lib.rt:148:9
 sub-result-2 : tie.Need-sub-result-2
 sub-result-2 c = omega (arith, lower-lt c)
 
--- src/lib.rt:142:1
 returns : tie.Need-returns
 returns c = ap (toTwos 32) (upper c .1)
 
--- src/lib.rt:142:1
 returns-2 : tie.Need-returns-2
 returns-2 c = one-less (natAbs (turned w32 (c .before .args .n))) ∙ ap (toTwos 32) (below c)
 

@@ -14,7 +14,6 @@ use Rattle.rounding.proofs.to_twos64.Tie as tie
 use Rattle.rounding.proofs.to_twos64.Reads as reads
 use Rattle.rounding.proofs.to_twos64.Lts as lts
 
--- src/lib.rt:167:9
 upper : (c : tie.Then1) → Plain w64 (c .before .args .n)
 upper c = plain w64 (c .before .args .n) (lit≤ tt) (c .before .fits .n) (c .if1 .taken)
 
@@ -33,27 +32,21 @@ one-less k = omega arith
 cast-result : tie.Need-cast-result
 cast-result c = upper c .0
 
--- src/lib.rt:169:40
 add-result : tie.Need-add-result
 add-result c = lower c .0
 
--- src/lib.rt:169:35
 sub-result : tie.Need-sub-result
 sub-result c = lower c .1
 
--- src/lib.rt:169:34
 cast-result-2 : tie.Need-cast-result-2
 cast-result-2 c = lower c .2
 
--- src/lib.rt:169:9
 sub-result-2 : tie.Need-sub-result-2
 sub-result-2 c = omega (arith, lower-lt c)
 
--- src/lib.rt:163:1
 returns : tie.Need-returns
 returns c = ap (toTwos 64) (upper c .1)
 
--- src/lib.rt:163:1
 returns-2 : tie.Need-returns-2
 returns-2 c = one-less (natAbs (turned w64 (c .before .args .n))) ∙ ap (toTwos 64) (below c)
 

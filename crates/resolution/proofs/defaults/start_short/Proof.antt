@@ -25,7 +25,6 @@ sub-resolve-node c = omega (arith, first-long (c .before .before .before .before
 part-resolve-node-start : tie.Need-part-resolve-node-start
 part-resolve-node-start c = omega (arith, first-long (c .before .before .before .before .before .before .before .args .ds) (c .before .before .before .before .before .before .before .args .s .now) (c .before .before .before .before .before .before .before .pre .0) (c .before .before .if1 .left))
 
--- src/defaults.rt:100:24
 part-resolve-node-end : tie.Need-part-resolve-node-end
 part-resolve-node-end c = search needs
 
@@ -35,22 +34,18 @@ sub-resolve-node-2 c = ready-there (c .before .before .before .before .before .b
 resolve-node-requires : tie.Need-resolve-node-requires
 resolve-node-requires c κs = (rw tail-is (first-ready (c .before .before .before .before .before .before .before .before .before .args .ds) (c .before .before .before .before .before .before .before .before .before .args .s .now) (c .before .before .before .before .before .before .before .before .before .pre .0) (c .before .before .before .before .if1 .left)), sound-reads (c .before .before .before .before .before .before .before .before .before .pre .1))
 
--- src/defaults.rt:101:26
 enum-known-n : tie.Need-enum-known-n
 enum-known-n c = search needs
 
--- src/defaults.rt:102:31
 enum-told : tie.Need-enum-told
 enum-told c = search needs
 
--- src/defaults.rt:90:1
 same-length : tie.Need-same-length
 same-length c = search needs
 
 returns-3 : tie.Need-returns-3
 returns-3 c = accepted-short (c .before .before .before .before .before .before .before .before .before .before .before .before .before .before .before .args .ds) (c .before .before .before .before .before .before .before .before .before .before .before .before .before .before .before .args .s .now) (c .before .before .before .before .before .before .before .before .before .before .before .before .before .before .before .args .d .now) (c .before .before .before .before .before .before .before .before .before .before .before .before .before .before .before .pre .0) (c .before .before .before .before .before .before .before .before .before .before .before .before .before .before .before .pre .1) (c .before .before .before .before .before .before .before .before .before .before .if1 .left) (c .before .before .before .before .before .before .before .before .if2 .left) _ _ (rw (c .before .n .given .1, tail-is) at (c .before .before .before .before .before .resolve-node .ensures))
 
--- src/defaults.rt:90:1
 same-length-2 : tie.Need-same-length-2
 same-length-2 c = search needs
 

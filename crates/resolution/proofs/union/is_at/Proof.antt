@@ -3,11 +3,9 @@ use borrow.Author.Needs.{needs}
 use Rattle.resolution.proofs.union.is_at.Statement.{statement}
 use Rattle.resolution.proofs.union.is_at.Tie as tie
 
--- src/union.rt:168:19
 enum-known-found : tie.Need-enum-known-found
 enum-known-found c = search needs
 
--- src/union.rt:169:27
 enum-told : tie.Need-enum-told
 enum-told c = search needs
 

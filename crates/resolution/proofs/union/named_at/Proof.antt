@@ -8,11 +8,9 @@ read2-requires : tie.Need-read2-requires
 unfolding Reads
 read2-requires c κs = (union-parts (c .before .args .depth) (c .before .args .s .now) (c .before .pre .0 .0) (c .before .pre .0 .1 .0) (c .before .pre .0 .1 .1) (c .before .pre .1)) .long
 
--- src/union.rt:121:13
 cast-n : tie.Need-cast-n
 cast-n c = search needs
 
--- src/union.rt:122:9
 variant-at-requires : tie.Need-variant-at-requires
 variant-at-requires c κs = search needs
 
@@ -20,19 +18,15 @@ read2-requires-2 : tie.Need-read2-requires-2
 unfolding Reads
 read2-requires-2 c κs = table-inside (c .before .before .before .args .depth) (c .before .before .before .args .s .now) (c .before .before .before .pre .0 .0) (union-parts (c .before .before .before .args .depth) (c .before .before .before .args .s .now) (c .before .before .before .pre .0 .0) (c .before .before .before .pre .0 .1 .0) (c .before .before .before .pre .0 .1 .1) (c .before .before .before .pre .1)) _ _ (c .variant-at .ensures) (c .before .read2 .ensures)
 
--- src/union.rt:123:13
 cast-k : tie.Need-cast-k
 cast-k c = search needs
 
--- src/union.rt:124:17
 add-named : tie.Need-add-named
 add-named c = search needs
 
--- src/union.rt:124:29
 mul-named : tie.Need-mul-named
 mul-named c = search needs
 
--- src/union.rt:124:17
 add-named-2 : tie.Need-add-named-2
 add-named-2 c = search needs
 
@@ -40,11 +34,9 @@ read2-requires-3 : tie.Need-read2-requires-3
 unfolding Reads
 read2-requires-3 c κs = named-inside (c .before .before .before .before .args .depth) (c .before .before .before .before .args .s .now) (c .before .before .before .before .pre .0 .0) (union-parts (c .before .before .before .before .args .depth) (c .before .before .before .before .args .s .now) (c .before .before .before .before .pre .0 .0) (c .before .before .before .before .pre .0 .1 .0) (c .before .before .before .before .pre .0 .1 .1) (c .before .before .before .before .pre .1)) _ _ (c .before .variant-at .ensures) (c .before .before .read2 .ensures) _ (c .read22 .ensures)
 
--- src/union.rt:125:17
 cast-count : tie.Need-cast-count
 cast-count c = search needs
 
--- src/union.rt:127:13
 add-t10 : tie.Need-add-t10
 add-t10 c = search needs
 

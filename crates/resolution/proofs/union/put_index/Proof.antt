@@ -3,22 +3,18 @@ use borrow.Author.Needs.{needs}
 use Rattle.resolution.proofs.union.put_index.Statement.{statement}
 use Rattle.resolution.proofs.union.put_index.Tie as tie
 
--- src/union.rt:202:9
 joined-requires : tie.Need-joined-requires
 joined-requires c κs = search needs
 
 returns : tie.Need-returns
 returns c = λ b w. index-over b (c .before .before .before .args .out .now) (c .before .before .before .args .i) (c .before .before .before .args .m) _ (c .if1 .taken) (c .before .joined .ensures) w
 
--- src/union.rt:206:5
 slice-write-out : tie.Need-slice-write-out
 slice-write-out c = search needs
 
--- src/union.rt:207:26
 cast-put4 : tie.Need-cast-put4
 cast-put4 c = search needs
 
--- src/union.rt:207:5
 put4-requires : tie.Need-put4-requires
 put4-requires c κs = search needs
 

@@ -4,27 +4,21 @@ use borrow.Author.Needs.{needs}
 use Rattle.resolution.proofs.union.sooner.Statement.{statement}
 use Rattle.resolution.proofs.union.sooner.Tie as tie
 
--- src/union.rt:181:27
 enum-told : tie.Need-enum-told
 enum-told c = search needs
 
--- src/union.rt:182:31
 enum-told-2 : tie.Need-enum-told-2
 enum-told-2 c = search needs
 
--- src/union.rt:183:23
 enum-known-named : tie.Need-enum-known-named
 enum-known-named c = search needs
 
--- src/union.rt:185:19
 enum-known-table : tie.Need-enum-known-table
 enum-known-table c = search needs
 
--- src/union.rt:186:31
 enum-told-3 : tie.Need-enum-told-3
 enum-told-3 c = search needs
 
--- src/union.rt:187:23
 enum-known-named-2 : tie.Need-enum-known-named-2
 enum-known-named-2 c = search needs
 

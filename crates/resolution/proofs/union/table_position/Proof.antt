@@ -8,11 +8,9 @@ use Rattle.resolution.proofs.UnionReading.{on-read-of, reads-some, unio
 use Rattle.resolution.proofs.union.table_position.Statement.{statement}
 use Rattle.resolution.proofs.union.table_position.Tie as tie
 
--- src/union.rt:155:24
 enum-told : tie.Need-enum-told
 enum-told c = search needs
 
--- src/union.rt:156:22
 enum-known-kind : tie.Need-enum-known-kind
 enum-known-kind c = search needs
 
@@ -20,23 +18,18 @@ read2-requires : tie.Need-read2-requires
 unfolding Reads
 read2-requires c κs = (union-parts (c .before .before .before .before .args .depth) (c .before .before .before .before .args .s .now) (c .before .before .before .before .pre .0 .0) (c .before .before .before .before .pre .0 .1 .0) (c .before .before .before .before .pre .0 .1 .1) (c .before .before .before .before .pre .1)) .long
 
--- src/union.rt:157:21
 cast-n : tie.Need-cast-n
 cast-n c = search needs
 
--- src/union.rt:158:17
 variant-at-requires : tie.Need-variant-at-requires
 variant-at-requires c κs = search needs
 
--- src/union.rt:159:21
 sub-look-up : tie.Need-sub-look-up
 sub-look-up c = search needs
 
--- src/union.rt:159:21
 part-look-up-start : tie.Need-part-look-up-start
 part-look-up-start c = search needs
 
--- src/union.rt:159:21
 part-look-up-end : tie.Need-part-look-up-end
 part-look-up-end c = search needs
 

@@ -3,18 +3,15 @@ use borrow.Author.Needs.{needs}
 use Rattle.resolution.proofs.union.was_named.Statement.{statement}
 use Rattle.resolution.proofs.union.was_named.Tie as tie
 
--- src/union.rt:153:24
 enum-told : tie.Need-enum-told
 enum-told c = search needs
 
--- src/union.rt:154:22
 enum-known-wanted : tie.Need-enum-known-wanted
 enum-known-wanted c = search needs
 
 returns : tie.Need-returns
 returns c = was-other _ _ _ _ _ _ (c .before .before .wanted .given .1) (c .if1 .taken)
 
--- src/union.rt:158:13
 stands-in-requires : tie.Need-stands-in-requires
 stands-in-requires c κs = search needs
 

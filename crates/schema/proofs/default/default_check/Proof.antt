@@ -16,7 +16,6 @@ use Rattle.schema.proofs.default.default_check.Tie as tie
 returns : tie.Need-returns
 returns c = checks-none _ _ _ (option-empty _ _ (c .if1 .taken))
 
--- src/default.rt:101:16
 shared-slice-read-flag : tie.Need-shared-slice-read-flag
 shared-slice-read-flag c = search needs
 
@@ -24,27 +23,21 @@ returns-2 : tie.Need-returns-2
 unfolding defaultAllowed
 returns-2 c = checks-of _ _ _ 1 true (omega arith) none (option-zero _ _ (omega arith) (c .if2 .taken)) refl
 
--- src/default.rt:106:48
 sub-value-check : tie.Need-sub-value-check
 sub-value-check c = search needs
 
--- src/default.rt:106:48
 part-value-check-start : tie.Need-part-value-check-start
 part-value-check-start c = search needs
 
--- src/default.rt:106:48
 part-value-check-end : tie.Need-part-value-check-end
 part-value-check-end c = search needs
 
--- src/default.rt:106:36
 value-check-requires : tie.Need-value-check-requires
 value-check-requires c κs = search needs
 
--- src/default.rt:106:25
 enum-known-m : tie.Need-enum-known-m
 enum-known-m c = search needs
 
--- src/default.rt:107:13
 enum-told : tie.Need-enum-told
 enum-told c = search needs
 
@@ -54,22 +47,18 @@ returns-3 c = checks-none _ _ _ (option-one-none _ _ (omega (arith, c .before .b
 add-t11 : tie.Need-add-t11
 add-t11 c = omega (arith, (held _ _ _ _ _ (rw (c .before .m .given .1, tail) at (c .before .before .before .value-check .ensures))) .inside, length-drop 1 (c .before .before .before .before .before .before .before .before .before .before .args .s .now), c .before .before .before .before .before .before .before .before .before .before .good)
 
--- src/default.rt:109:54
 sub-default-kinds : tie.Need-sub-default-kinds
 sub-default-kinds c = search needs
 
--- src/default.rt:109:54
 part-default-kinds-start : tie.Need-part-default-kinds-start
 part-default-kinds-start c = search needs
 
--- src/default.rt:109:54
 part-default-kinds-end : tie.Need-part-default-kinds-end
 part-default-kinds-end c = search needs
 
 default-kinds-requires : tie.Need-default-kinds-requires
 default-kinds-requires c κs = rw tail (checks-reads _ _ _ _ _ (rw (c .before .before .m .given .1, tail) at (c .before .before .before .before .value-check .ensures)))
 
--- src/default.rt:109:35
 both-requires : tie.Need-both-requires
 both-requires c κs = search needs
 

@@ -15,27 +15,21 @@ use Rattle.schema.proofs.leaf.decimal_check.Tie as tie
 returns : tie.Need-returns
 returns c = λ node. checks-none _ _ _ (decimal-none node _ (c .if1 .taken))
 
--- src/leaf.rt:95:38
 sub-option-size-len : tie.Need-sub-option-size-len
 sub-option-size-len c = search needs
 
--- src/leaf.rt:95:38
 part-option-size-len-start : tie.Need-part-option-size-len-start
 part-option-size-len-start c = search needs
 
--- src/leaf.rt:95:38
 part-option-size-len-end : tie.Need-part-option-size-len-end
 part-option-size-len-end c = search needs
 
--- src/leaf.rt:95:22
 option-size-len-requires : tie.Need-option-size-len-requires
 option-size-len-requires c κs = search needs
 
--- src/leaf.rt:95:17
 enum-known-m : tie.Need-enum-known-m
 enum-known-m c = search needs
 
--- src/leaf.rt:96:9
 enum-told : tie.Need-enum-told
 enum-told c = search needs
 

@@ -15,7 +15,6 @@ use Rattle.schema.proofs.leaf.duration_check.Tie as tie
 returns : tie.Need-returns
 returns c = λ node. checks-none _ _ _ (duration-none node _ (c .if1 .taken))
 
--- src/leaf.rt:141:9
 read2-requires : tie.Need-read2-requires
 read2-requires c κs = search needs
 

@@ -12,15 +12,12 @@ use Rattle.schema.proofs.Leaves.{option-empty, option-zero, option-one-
 use Rattle.schema.proofs.leaf.enum_check.Statement.{statement}
 use Rattle.schema.proofs.leaf.enum_check.Tie as tie
 
--- src/leaf.rt:79:22
 texts-len-requires : tie.Need-texts-len-requires
 texts-len-requires c κs = search needs
 
--- src/leaf.rt:79:17
 enum-known-a : tie.Need-enum-known-a
 enum-known-a c = search needs
 
--- src/leaf.rt:80:9
 enum-told : tie.Need-enum-told
 enum-told c = search needs
 
@@ -33,19 +30,15 @@ sub-option-text-len c = omega (arith, (long _ _ _ (rw (c .before .a .given .1) a
 part-option-text-len-start : tie.Need-part-option-text-len-start
 part-option-text-len-start c = omega (arith, (long _ _ _ (rw (c .before .a .given .1) at (c .before .before .before .texts-len .ensures))) .inside)
 
--- src/leaf.rt:82:38
 part-option-text-len-end : tie.Need-part-option-text-len-end
 part-option-text-len-end c = search needs
 
--- src/leaf.rt:82:22
 option-text-len-requires : tie.Need-option-text-len-requires
 option-text-len-requires c κs = search needs
 
--- src/leaf.rt:82:17
 enum-known-b : tie.Need-enum-known-b
 enum-known-b c = search needs
 
--- src/leaf.rt:83:9
 enum-told-2 : tie.Need-enum-told-2
 enum-told-2 c = search needs
 

@@ -16,35 +16,30 @@ returns : tie.Need-returns
 unfolding schemaSound
 returns c = λ node. checks-of schemaSound _ _ 0 _ (omega arith) _ (plain-low node _ _ (c .if1 .taken)) refl
 
--- src/leaf.rt:154:9
 enum-check-requires : tie.Need-enum-check-requires
 enum-check-requires c κs = search needs
 
 returns-2 : tie.Need-returns-2
 returns-2 c = λ node. rw (c .before .if2 .taken) (c .enum-check .ensures node)
 
--- src/leaf.rt:157:9
 fixed-check-requires : tie.Need-fixed-check-requires
 fixed-check-requires c κs = search needs
 
 returns-3 : tie.Need-returns-3
 returns-3 c = λ node. rw (c .before .if3 .taken) (c .fixed-check .ensures node)
 
--- src/leaf.rt:160:9
 decimal-check-requires : tie.Need-decimal-check-requires
 decimal-check-requires c κs = search needs
 
 returns-4 : tie.Need-returns-4
 returns-4 c = λ node. rw (c .before .if4 .taken) (c .decimal-check .ensures node)
 
--- src/leaf.rt:163:9
 uuid-check-requires : tie.Need-uuid-check-requires
 uuid-check-requires c κs = search needs
 
 returns-5 : tie.Need-returns-5
 returns-5 c = λ node. rw (c .before .if5 .taken) (c .uuid-check .ensures node)
 
--- src/leaf.rt:166:9
 duration-check-requires : tie.Need-duration-check-requires
 duration-check-requires c κs = search needs
 

@@ -15,7 +15,6 @@ use Rattle.schema.proofs.leaf.option_size_len.Tie as tie
 returns : tie.Need-returns
 returns c = measured-none _ _ (option-empty _ _ (c .if1 .taken))
 
--- src/leaf.rt:62:16
 shared-slice-read-flag : tie.Need-shared-slice-read-flag
 shared-slice-read-flag c = search needs
 

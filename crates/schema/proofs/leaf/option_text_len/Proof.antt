@@ -15,34 +15,27 @@ use Rattle.schema.proofs.leaf.option_text_len.Tie as tie
 returns : tie.Need-returns
 returns c = measured-none _ _ (option-empty _ _ (c .if1 .taken))
 
--- src/leaf.rt:42:16
 shared-slice-read-flag : tie.Need-shared-slice-read-flag
 shared-slice-read-flag c = search needs
 
 returns-2 : tie.Need-returns-2
 returns-2 c = measured-of _ _ _ (omega arith) _ (option-zero _ _ (omega arith) (c .if2 .taken))
 
--- src/leaf.rt:47:35
 sub-text-len : tie.Need-sub-text-len
 sub-text-len c = search needs
 
--- src/leaf.rt:47:35
 part-text-len-start : tie.Need-part-text-len-start
 part-text-len-start c = search needs
 
--- src/leaf.rt:47:35
 part-text-len-end : tie.Need-part-text-len-end
 part-text-len-end c = search needs
 
--- src/leaf.rt:47:26
 text-len-requires : tie.Need-text-len-requires
 text-len-requires c κs = search needs
 
--- src/leaf.rt:47:21
 enum-known-m : tie.Need-enum-known-m
 enum-known-m c = search needs
 
--- src/leaf.rt:48:13
 enum-told : tie.Need-enum-told
 enum-told c = search needs
 

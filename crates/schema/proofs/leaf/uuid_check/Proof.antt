@@ -15,7 +15,6 @@ use Rattle.schema.proofs.leaf.uuid_check.Tie as tie
 returns : tie.Need-returns
 returns c = λ node. checks-none _ _ _ (uuid-empty node _ (c .if1 .taken))
 
--- src/leaf.rt:117:16
 shared-slice-read-form : tie.Need-shared-slice-read-form
 shared-slice-read-form c = search needs
 
@@ -30,7 +29,6 @@ returns-3 c = λ node. checks-of _ _ _ _ _ (omega arith) _ (uuid-string node _ (
 returns-4 : tie.Need-returns-4
 returns-4 c = λ node. checks-none _ _ _ (uuid-short node _ (omega arith) (c .before .if4 .taken) (c .if5 .taken))
 
--- src/leaf.rt:128:13
 read2-requires : tie.Need-read2-requires
 read2-requires c κs = search needs
 

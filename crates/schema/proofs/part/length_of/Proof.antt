@@ -3,18 +3,15 @@ use borrow.Author.Needs.{needs}
 use Rattle.schema.proofs.part.length_of.Statement.{statement}
 use Rattle.schema.proofs.part.length_of.Tie as tie
 
--- src/part.rt:22:21
 enum-known-c : tie.Need-enum-known-c
 enum-known-c c = search needs
 
--- src/part.rt:23:28
 enum-told : tie.Need-enum-told
 enum-told c = search needs
 
 returns : tie.Need-returns
 returns c = rw (c .before .c .given .1)
 
--- src/part.rt:18:1
 returns-2 : tie.Need-returns-2
 returns-2 c = search needs
 

@@ -4,15 +4,12 @@ use Rattle.schema.proofs.Seeking.{spans-measured, spans-never}
 use Rattle.schema.proofs.skip.field_len.Statement.{statement}
 use Rattle.schema.proofs.skip.field_len.Tie as tie
 
--- src/skip.rt:133:11
 field-skip-requires : tie.Need-field-skip-requires
 field-skip-requires c κs = search needs
 
--- src/skip.rt:134:17
 enum-known-n : tie.Need-enum-known-n
 enum-known-n c = search needs
 
--- src/skip.rt:135:24
 enum-told : tie.Need-enum-told
 enum-told c = search needs
 

@@ -4,15 +4,12 @@ use Rattle.schema.proofs.Seeking.{spans-measured, spans-never}
 use Rattle.schema.proofs.skip.schema_len.Statement.{statement}
 use Rattle.schema.proofs.skip.schema_len.Tie as tie
 
--- src/skip.rt:122:11
 schema-skip-requires : tie.Need-schema-skip-requires
 schema-skip-requires c κs = search needs
 
--- src/skip.rt:123:17
 enum-known-n : tie.Need-enum-known-n
 enum-known-n c = search needs
 
--- src/skip.rt:124:24
 enum-told : tie.Need-enum-told
 enum-told c = search needs
 
