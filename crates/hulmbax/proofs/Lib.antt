@@ -2,3 +2,4 @@ pub mod Finishes
 pub mod Computed
 pub mod EntryLaws
 pub mod ClearLaws
+pub mod CodeLaws

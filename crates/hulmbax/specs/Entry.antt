@@ -1,5 +1,6 @@
 -- The entry's answer as document 01's number and length, and what its steps say.
-use Prim.Native.Nat.{ℕ}
+use Prim.Native.Nat.{ℕ, _≤_}
+use lib.IntN.{ℤ, pos, negℤ}
 use mathlib.Core.Path.{_≡_}
 use mathlib.Core.List.{List}
 use lib.ListN.{length}
@@ -27,3 +28,13 @@ pub record Passed (schema record' : List ℕ) : Type 0 where
   pub value : Value
   pub schema-is : checkedSchema (decodeSchema schema) ≡ ok tree
   pub value-is : checkedValue (decodeValue record') ≡ ok value
+
+-- the answer as one signed number, for C: a length, or a refusal's number negated
+unfoldable pub codeOf : Resolved → ℤ
+codeOf (Accepted n) = pos n
+codeOf (Refused e) = negℤ (pos e)
+
+-- an accepted length is that of a frame
+unfoldable pub Short : Resolved → Type 0
+Short (Accepted n) = n ≤ 65535
+Short (Refused e) = Unit {0}

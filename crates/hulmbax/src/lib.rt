@@ -10,7 +10,7 @@ ghost use Rattle.frame.specs.ValueFrame.{decodeValue, encodeValue};
 ghost use Rattle.frame.specs.SchemaFrame.{decodeSchema};
 ghost use Rattle.avro.specs.Resolve;
 ghost use Rattle.hulmbax.specs.Answer.{answer, bufferAfter, checkedSchema, checkedValue, workspaceAfter, written};
-ghost use Rattle.hulmbax.specs.Entry.{Passed, resolvedOf, stopOf};
+ghost use Rattle.hulmbax.specs.Entry.{Passed, Short, codeOf, resolvedOf, stopOf};
 
 // A result of so many bytes, or the number of what stopped the record.
 pub enum Resolved {
@@ -106,4 +106,30 @@ pub fn resolve(schema: &[u8], record: &[u8], result: &mut [u8], workspace: &mut 
     let r = resolve_in(schema, record, result, &mut workspace[..65536]);
     clear(&mut workspace[..65536]);
     r
+}
+
+// The answer as one signed number for C: the length of an accepted result, or the refusal's number negated.
+fn code(r: Resolved) -> i32
+    requires { ⌜ Short r ⌝ }
+    ensures { λ n. ⌜ n ≡ codeOf r ⌝ }
+{
+    match r {
+        Resolved::Accepted(n) => n as i32,
+        Resolved::Refused(e) => 0 - (e as i32),
+    }
+}
+
+// The same entry for C and Rust: what `resolve` does, and its answer as one number.
+#[no_mangle]
+pub extern "C" fn hulmbax_resolve(
+    schema: &[u8],
+    record: &[u8],
+    result: &mut [u8],
+    workspace: &mut [u8],
+) -> i32
+    ensures answer { λ r. ⌜ r ≡ codeOf (resolvedOf (answer (now (schema .entry)) (now («record» .entry)) (length (now (result .entry))) (length (now (workspace .entry))))) ⌝ }
+    ensures contents { λ _. ⌜ now (result .exit) ≡ bufferAfter (answer (now (schema .entry)) (now («record» .entry)) (length (now (result .entry))) (length (now (workspace .entry)))) (now (result .entry)) ⌝ }
+    ensures cleared { λ _. ⌜ now (workspace .exit) ≡ workspaceAfter (answer (now (schema .entry)) (now («record» .entry)) (length (now (result .entry))) (length (now (workspace .entry)))) (now (workspace .entry)) ⌝ }
+{
+    code(resolve(schema, record, result, workspace))
 }

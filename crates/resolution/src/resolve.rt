@@ -103,7 +103,7 @@ fn resolve_map(s: &[u8], v: &[u8], out: &mut [u8], ds: usize, dv: usize) -> Answ
     let mut from: usize = 3;
     while 0 < left {
         let o = room(at, out.len());
-        match resolve_entry(&s[1..], &v[from..], &mut out[o..], ds - 1, dv - 1) {
+        match entry(&s[1..], &v[from..], &mut out[o..], ds - 1, dv - 1) {
             Answer::Accepted(m) => {
                 at = joined(at, m);
             }
@@ -118,7 +118,7 @@ fn resolve_map(s: &[u8], v: &[u8], out: &mut [u8], ds: usize, dv: usize) -> Answ
 }
 
 // A map's entry: its key, and its node resolved.
-fn resolve_entry(s: &[u8], v: &[u8], out: &mut [u8], ds: usize, dv: usize) -> Answer
+fn entry(s: &[u8], v: &[u8], out: &mut [u8], ds: usize, dv: usize) -> Answer
     requires { ⌜ Ready ds (now s) × Reads (readEntry (readValue dv) (now v)) ⌝ }
     ensures { λ r. ⌜ Wrote (onBoth entryBytes (readSchema ds (now (s .entry))) (readEntry (readValue dv) (now (v .entry)))) (now (out .exit)) r ⌝ }
 {
@@ -136,16 +136,16 @@ fn resolve_record(s: &[u8], v: &[u8], out: &mut [u8], ds: usize, dv: usize) -> A
     ensures { λ r. ⌜ Wrote (onBoth peeledBytes (readSchema ds (now (s .entry))) (readValue dv (now (v .entry)))) (now (out .exit)) r ⌝ }
 {
     if v[0] == 0x0b {
-        return resolve_fields(s, v, out, ds, dv);
+        return fields(s, v, out, ds, dv);
     }
     if v[0] == 0x09 {
-        return resolve_fields(s, v, out, ds, dv);
+        return fields(s, v, out, ds, dv);
     }
     Answer::Refused(6)
 }
 
 // The fields of a record schema, for a Record or a Map.
-fn resolve_fields(s: &[u8], v: &[u8], out: &mut [u8], ds: usize, dv: usize) -> Answer
+fn fields(s: &[u8], v: &[u8], out: &mut [u8], ds: usize, dv: usize) -> Answer
     requires { ⌜ Ready ds (now s) × Reads (readValue dv (now v)) × (getD (now s) 0 0 ≡ 11) × Keyed (now v) ⌝ }
     ensures { λ r. ⌜ Wrote (onBoth peeledBytes (readSchema ds (now (s .entry))) (readValue dv (now (v .entry)))) (now (out .exit)) r ⌝ }
 {
@@ -154,7 +154,7 @@ fn resolve_fields(s: &[u8], v: &[u8], out: &mut [u8], ds: usize, dv: usize) -> A
     let mut from: usize = 3;
     while 0 < left {
         let o = room(at, out.len());
-        match resolve_field(&s[from..], v, &mut out[o..], ds - 1, dv) {
+        match one_field(&s[from..], v, &mut out[o..], ds - 1, dv) {
             Answer::Accepted(m) => {
                 at = joined(at, m);
             }
@@ -169,7 +169,7 @@ fn resolve_fields(s: &[u8], v: &[u8], out: &mut [u8], ds: usize, dv: usize) -> A
 }
 
 // One field: its name, and the last value under it or its default.
-fn resolve_field(s: &[u8], v: &[u8], out: &mut [u8], ds: usize, dv: usize) -> Answer
+fn one_field(s: &[u8], v: &[u8], out: &mut [u8], ds: usize, dv: usize) -> Answer
     requires { ⌜ ReadyField ds (now s) × Reads (readValue dv (now v)) × Keyed (now v) ⌝ }
     ensures { λ r. ⌜ Wrote (onBoth fieldBytes (readField (readSchema ds) (now (s .entry))) (readValue dv (now (v .entry)))) (now (out .exit)) r ⌝ }
 {
@@ -189,7 +189,7 @@ fn resolve_field(s: &[u8], v: &[u8], out: &mut [u8], ds: usize, dv: usize) -> An
                 return Answer::Refused(17);
             }
             let d = f.default_at;
-            match resolve_default(&s[schema..], &s[d..], &mut out[o..], ds) {
+            match default(&s[schema..], &s[d..], &mut out[o..], ds) {
                 Answer::Accepted(m) => Answer::Accepted(joined(at, m)),
                 Answer::Refused(e) => Answer::Refused(e),
             }
@@ -198,7 +198,7 @@ fn resolve_field(s: &[u8], v: &[u8], out: &mut [u8], ds: usize, dv: usize) -> An
 }
 
 // A field's default: in a union field it goes to the first variant, and the union is resolved anew.
-fn resolve_default(s: &[u8], d: &[u8], out: &mut [u8], ds: usize) -> Answer
+fn default(s: &[u8], d: &[u8], out: &mut [u8], ds: usize) -> Answer
     requires { ⌜ ReadyDefault ds (now s) (now d) ⌝ }
     ensures { λ r. ⌜ Wrote (onBoth defaultBytes (readSchema ds (now (s .entry))) (readValue 16 (now (d .entry)))) (now (out .exit)) r ⌝ }
 {
@@ -223,17 +223,17 @@ fn resolve_union(s: &[u8], v: &[u8], out: &mut [u8], ds: usize, dv: usize) -> An
     requires { ⌜ Ready ds (now s) × Reads (readValue dv (now v)) × (getD (now s) 0 0 ≡ 10) ⌝ }
     ensures { λ r. ⌜ Wrote (onBoth peeledBytes (readSchema ds (now (s .entry))) (readValue dv (now (v .entry)))) (now (out .exit)) r ⌝ }
 {
-    let named = find_named(s, v, out, ds, dv);
+    let named = named_of(s, v, out, ds, dv);
     let table = table_position(s, unnamed_kind(v[0]), ds);
     match sooner(table, named) {
-        Choice::Table(i) => resolve_table(s, v, out, ds, dv, i, named),
+        Choice::Table(i) => tabled(s, v, out, ds, dv, i, named),
         Choice::Named(i, m) => Answer::Accepted(put_index(out, i, m)),
-        Choice::Neither => resolve_any(s, v, out, ds, dv, Found::Nothing),
+        Choice::Neither => any_of(s, v, out, ds, dv, Found::Nothing),
     }
 }
 
 // The kind table's variant. Only where it is an Array or a Map does its refusal count as a trial's.
-fn resolve_table(
+fn tabled(
     s: &[u8],
     v: &[u8],
     out: &mut [u8],
@@ -245,7 +245,7 @@ fn resolve_table(
     requires { ⌜ Ready ds (now s) × Reads (readValue dv (now v)) × (getD (now s) 0 0 ≡ 10) × OnBoth (TableFirst i named) (readSchema ds (now s)) (readValue dv (now v)) ⌝ }
     ensures { λ r. ⌜ Wrote (onBoth peeledBytes (readSchema ds (now (s .entry))) (readValue dv (now (v .entry)))) (now (out .exit)) r ⌝ }
 {
-    match resolve_variant(s, v, out, ds, dv, i) {
+    match indexed(s, v, out, ds, dv, i) {
         Answer::Accepted(n) => Answer::Accepted(n),
         Answer::Refused(e) => {
             let p = variant_at(s, i, ds);
@@ -253,38 +253,38 @@ fn resolve_table(
                 return Answer::Refused(e);
             }
             match named {
-                Tried::At(j, _) => resolve_variant(s, v, out, ds, dv, j),
-                Tried::Nothing => resolve_any(s, v, out, ds, dv, Found::At(i)),
+                Tried::At(j, _) => indexed(s, v, out, ds, dv, j),
+                Tried::Nothing => any_of(s, v, out, ds, dv, Found::At(i)),
             }
         }
     }
 }
 
 // The variant i, written behind its index.
-fn resolve_variant(s: &[u8], v: &[u8], out: &mut [u8], ds: usize, dv: usize, i: usize) -> Answer
+fn indexed(s: &[u8], v: &[u8], out: &mut [u8], ds: usize, dv: usize, i: usize) -> Answer
     requires { ⌜ Ready ds (now s) × Reads (readValue dv (now v)) × (getD (now s) 0 0 ≡ 10) × OnRead (λ t. i < countOf t) (readSchema ds (now s)) ⌝ }
     ensures { λ r. ⌜ Wrote (onBoth (variantBytes i) (readSchema ds (now (s .entry))) (readValue dv (now (v .entry)))) (now (out .exit)) r ⌝ }
 {
     let p = variant_at(s, i, ds);
-    match try_variant(&s[p..], v, out, ds - 1, dv) {
+    match trial(&s[p..], v, out, ds - 1, dv) {
         Answer::Accepted(m) => Answer::Accepted(put_index(out, i, m)),
         Answer::Refused(e) => Answer::Refused(e),
     }
 }
 
 // The first named variant that resolves; its result stands behind the place of its index.
-fn find_named(s: &[u8], v: &[u8], out: &mut [u8], ds: usize, dv: usize) -> Tried
+fn named_of(s: &[u8], v: &[u8], out: &mut [u8], ds: usize, dv: usize) -> Tried
     requires { ⌜ Ready ds (now s) × Reads (readValue dv (now v)) × (getD (now s) 0 0 ≡ 10) ⌝ }
     ensures { λ r. ⌜ OnBoth (λ t w. Stands (namedOf t w) t w (now (out .exit)) r) (readSchema ds (now (s .entry))) (readValue dv (now (v .entry))) ⌝ }
 {
     match named_kind(v[0]) {
-        Wanted::Kind(k) => first_named(s, v, out, ds, dv, k),
+        Wanted::Kind(k) => find_named(s, v, out, ds, dv, k),
         Wanted::Any => Tried::Nothing,
     }
 }
 
 // The first variant of named_index that has the base kind k and resolves.
-fn first_named(s: &[u8], v: &[u8], out: &mut [u8], ds: usize, dv: usize, k: u8) -> Tried
+fn find_named(s: &[u8], v: &[u8], out: &mut [u8], ds: usize, dv: usize, k: u8) -> Tried
     requires { ⌜ Ready ds (now s) × Reads (readValue dv (now v)) × (getD (now s) 0 0 ≡ 10) ⌝ }
     ensures { λ r. ⌜ OnBoth (λ t w. Stands (namedVariant (trialsOf t w) (namedTable t) (some k)) t w (now (out .exit)) r) (readSchema ds (now (s .entry))) (readValue dv (now (v .entry))) ⌝ }
 {
@@ -330,11 +330,11 @@ fn try_named(
     if base_kind(&s[p..], ds - 1) != k {
         return Answer::Refused(16);
     }
-    try_variant(&s[p..], v, out, ds - 1, dv)
+    trial(&s[p..], v, out, ds - 1, dv)
 }
 
 // The schema s, its result written behind the place of an index.
-fn try_variant(s: &[u8], v: &[u8], out: &mut [u8], ds: usize, dv: usize) -> Answer
+fn trial(s: &[u8], v: &[u8], out: &mut [u8], ds: usize, dv: usize) -> Answer
     requires { ⌜ Ready ds (now s) × Reads (readValue dv (now v)) ⌝ }
     ensures { λ r. ⌜ Wrote (onBoth nodeBytes (readSchema ds (now (s .entry))) (readValue dv (now (v .entry)))) (drop 5 (now (out .exit))) r ⌝ }
 {
@@ -343,7 +343,7 @@ fn try_variant(s: &[u8], v: &[u8], out: &mut [u8], ds: usize, dv: usize) -> Answ
 }
 
 // The first variant that resolves, without the position that was tried and the named ones, which were too.
-fn resolve_any(s: &[u8], v: &[u8], out: &mut [u8], ds: usize, dv: usize, tried: Found) -> Answer
+fn any_of(s: &[u8], v: &[u8], out: &mut [u8], ds: usize, dv: usize, tried: Found) -> Answer
     requires { ⌜ Ready ds (now s) × Reads (readValue dv (now v)) × (getD (now s) 0 0 ≡ 10) × OnBoth (NoneYet tried) (readSchema ds (now s)) (readValue dv (now v)) ⌝ }
     ensures { λ r. ⌜ Wrote (onBoth firstBytes (readSchema ds (now (s .entry))) (readValue dv (now (v .entry)))) (now (out .exit)) r ⌝ }
 {
@@ -400,5 +400,5 @@ fn try_any(
     if was_named(s, named, i, named_kind(v[0]), base) {
         return Answer::Refused(16);
     }
-    try_variant(&s[from..], v, out, ds - 1, dv)
+    trial(&s[from..], v, out, ds - 1, dv)
 }

@@ -1,0 +1,33 @@
+-- `hulmbax::hulmbax_resolve` meets its contract: it is `resolve`, and its answer's code.
+use mathlib.Core.Path.{_≡_, refl, sym, ap, subst, _∙_}
+use lib.ListN.{length}
+use mir.Syntax.{w32}
+use mir.ValLaws.{toZ-ofZ}
+use borrow.Author.Needs.{needs}
+use Rattle.hulmbax.specs.Entry.{Short, codeOf}
+use Rattle.hulmbax.proofs.CodeLaws.{answer-short}
+use Rattle.hulmbax.proofs.hulmbax_resolve.Statement.{statement}
+use Rattle.hulmbax.proofs.hulmbax_resolve.Tie as tie
+use Rattle.hulmbax.proofs.hulmbax_resolve.Reads as reads
+use Rattle.hulmbax.proofs.hulmbax_resolve.Lts as lts
+use Rattle.hulmbax.proofs.code.Reads as code-reads
+use Rattle.hulmbax.proofs.resolve.Reads as resolve-reads
+
+resolve-requires : tie.Need-resolve-requires
+resolve-requires c κs = search needs
+
+code-requires : tie.Need-code-requires
+code-requires c κs = subst Short (sym (c .before .before .before .before .resolve .ensures .0)) (answer-short (c .before .before .before .before .before .before .before .before .before .before .before .args .schema .now) (c .before .before .before .before .before .before .before .before .before .before .before .args .«record» .now) (length (c .before .before .before .before .before .before .before .before .before .before .before .args .result .now)) (length (c .before .before .before .before .before .before .before .before .before .before .before .args .workspace .now)))
+
+same-length : tie.Need-same-length
+same-length c = search needs
+
+same-length-2 : tie.Need-same-length-2
+same-length-2 c = search needs
+
+returns : tie.Need-returns
+returns c = (toZ-ofZ w32 (c .code .result) (record { sfits = c .code .ok }) ∙ c .code .ensures ∙ ap codeOf (c .before .before .before .before .before .resolve .ensures .0), c .before .before .before .before .before .resolve .ensures .1)
+
+pub hulmbax-resolve-spec : {M : Type 1} → statement M
+hulmbax-resolve-spec =
+    tie.close (tie.spec resolve-requires code-requires same-length same-length-2 returns)
