@@ -124,7 +124,22 @@ pub(crate) fn ended(w: Wait) -> bool
     }
 }
 
-// How many bytes at the front are ASCII, in steps of eight.
+// Where the ASCII that begins at a position ends.
+pub(crate) fn ascii_rest(s: &[u8], from: usize) -> usize
+    requires { ⌜ from ≤ length (now s) ⌝ }
+    ensures { λ r. ⌜ (r ≤ length (now (s .entry))) × (run Wait.Start (drop r (now (s .entry))) ≡ run Wait.Start (drop from (now (s .entry)))) ⌝ }
+{
+    let mut i = from;
+    while i < s.len() {
+        if 0x7f < s[i] {
+            return i;
+        }
+        i += 1;
+    }
+    i
+}
+
+// How many bytes at the front are ASCII: steps of eight, and then single bytes.
 pub(crate) fn ascii_front(s: &[u8]) -> usize
     ensures { λ r. ⌜ (r ≤ length (now (s .entry))) × (run Wait.Start (drop r (now (s .entry))) ≡ run Wait.Start (now (s .entry))) ⌝ }
 {
@@ -139,11 +154,11 @@ pub(crate) fn ascii_front(s: &[u8]) -> usize
             + s[i + 6] / 128
             + s[i + 7] / 128;
         if high != 0 {
-            return i;
+            return ascii_rest(s, i);
         }
         i += 8;
     }
-    i
+    ascii_rest(s, i)
 }
 
 // The next position that matters: between characters, the ASCII that follows is passed over.
