@@ -45,6 +45,8 @@ struct Readme;
 
 pub use refusal::Refusal;
 
+use std::fmt;
+
 /// The bytes of workspace that a call needs.
 pub const WORKSPACE_LEN: usize = 65_536;
 
@@ -52,7 +54,7 @@ pub const WORKSPACE_LEN: usize = 65_536;
 pub const RESULT_LEN: usize = frame::MAX_FRAME;
 
 /// Memory that a call of [`resolve`] works in: 65,536 bytes on the heap, to be used again and again.
-#[derive(Clone, Debug)]
+#[derive(Clone)]
 pub struct Workspace {
     bytes: Vec<u8>,
 }
@@ -69,6 +71,13 @@ impl Workspace {
 impl Default for Workspace {
     fn default() -> Workspace {
         Workspace::new()
+    }
+}
+
+// Without its bytes, which say nothing: they are zero between calls.
+impl fmt::Debug for Workspace {
+    fn fmt(&self, f: &mut fmt::Formatter<'_>) -> fmt::Result {
+        f.debug_struct("Workspace").finish_non_exhaustive()
     }
 }
 
