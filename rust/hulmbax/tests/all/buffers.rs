@@ -1,5 +1,6 @@
-// What a call leaves in the result buffer and in the workspace.
-use crate::common::bytes;
+// What a call leaves in the result buffer and in the workspace, and the stack that it needs.
+use crate::common::{bytes, resolved};
+use hulmbax::frame::{RecordField, Schema, Value, MAX_DEPTH};
 use hulmbax::{resolve, resolve_in, Refusal, Workspace, WORKSPACE_LEN};
 
 const LONG: &str = "03";
@@ -111,4 +112,19 @@ fn threads_call_at_the_same_time() {
         })
         .collect();
     assert!(calls.into_iter().all(|call| call.join().unwrap()));
+}
+
+// Records nested as deep as a frame can be take the most stack.
+#[test]
+fn a_thread_with_128_kilobytes_of_stack_is_enough() {
+    let record_of = |s| Schema::record(vec![RecordField::new("f", s)]);
+    let schema = (1..MAX_DEPTH).fold(Schema::Int, |s, _| record_of(s));
+    let value_of = |v| Value::Record(vec![("f".to_string(), v)]);
+    let value = (1..MAX_DEPTH).fold(Value::Int(1), |v, _| value_of(v));
+    let (schema, record) = (schema.to_frame().unwrap(), value.to_frame().unwrap());
+    let sent = record.clone();
+    let call = std::thread::Builder::new()
+        .stack_size(128 * 1024)
+        .spawn(move || resolved(&schema, &sent));
+    assert_eq!(call.unwrap().join().unwrap(), Ok(record));
 }
