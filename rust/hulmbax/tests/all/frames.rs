@@ -9,7 +9,8 @@ fn text(text: &str) -> String {
     text.to_string()
 }
 
-/// A value of each kind, in the order of the kinds, and its frame.
+/// A value of each kind, in the order of the kinds, and its frame; a line each.
+#[rustfmt::skip]
 fn values() -> Vec<(Value, &'static str)> {
     let duration = Duration {
         months: 1,
@@ -25,19 +26,10 @@ fn values() -> Vec<(Value, &'static str)> {
         (Value::Double(3600.5), "0540ac210000000000"),
         (Value::Bytes(vec![0, 255]), "06000200ff"),
         (Value::String(text("é")), "070002c3a9"),
-        (
-            Value::Array(vec![Value::Null, Value::Int(1)]),
-            "080002000200000001",
-        ),
-        (
-            Value::Map([(text("a"), Value::Null), (text("b"), Value::Null)].into()),
-            "0900020001610000016200",
-        ),
+        (Value::Array(vec![Value::Null, Value::Int(1)]), "080002000200000001"),
+        (Value::Map([(text("a"), Value::Null), (text("b"), Value::Null)].into()), "0900020001610000016200"),
         (Value::Union(1, Box::new(Value::Null)), "0a0000000100"),
-        (
-            Value::Record(vec![(text("b"), Value::Null), (text("a"), Value::Null)]),
-            "0b00020001620000016100",
-        ),
+        (Value::Record(vec![(text("b"), Value::Null), (text("a"), Value::Null)]), "0b00020001620000016100"),
         (Value::Enum(2, text("dnf")), "0c000000020003646e66"),
         (Value::Fixed(2, vec![1, 2]), "0d00020102"),
         (Value::Decimal(vec![0xff]), "0e0001ff"),
@@ -74,7 +66,8 @@ fn fixed(size: usize) -> FixedSchema {
     FixedSchema { size }
 }
 
-/// Schemas of each kind, in the order of the kinds, and their frames.
+/// Schemas of each kind, in the order of the kinds, and their frames; a line each.
+#[rustfmt::skip]
 fn schemas() -> Vec<(Schema, &'static str)> {
     let field = RecordField::new("a", Schema::Int);
     let defaulted = field.clone().with_default(Value::Int(5));
@@ -89,23 +82,14 @@ fn schemas() -> Vec<(Schema, &'static str)> {
         (Schema::String, "07"),
         (Schema::array(Schema::Int), "0802"),
         (Schema::map(Schema::Int), "0902"),
-        (
-            Schema::nullable(Schema::Double).unwrap(),
-            "0a0002000500020000000500010000",
-        ),
+        (Schema::nullable(Schema::Double).unwrap(), "0a0002000500020000000500010000"),
         (Schema::record(vec![field]), "0b00010001610002"),
-        (
-            Schema::record(vec![defaulted]),
-            "0b000100016101020000000502",
-        ),
+        (Schema::record(vec![defaulted]), "0b000100016101020000000502"),
         (symbols(None), "0c000200016100016200"),
         (symbols(Some("b")), "0c000200016100016201000162"),
         (Schema::Fixed(fixed(4)), "0d0004"),
         (decimal(InnerDecimalSchema::Bytes), "0e000000050000000200"),
-        (
-            decimal(InnerDecimalSchema::Fixed(fixed(3))),
-            "0e0000000500000002010003",
-        ),
+        (decimal(InnerDecimalSchema::Fixed(fixed(3))), "0e0000000500000002010003"),
         (Schema::Uuid(UuidSchema::Bytes), "0f00"),
         (Schema::Uuid(UuidSchema::String), "0f01"),
         (Schema::Uuid(UuidSchema::Fixed(fixed(16))), "0f020010"),
