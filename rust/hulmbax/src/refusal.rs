@@ -1,0 +1,154 @@
+// The eighteen refusals of document 01, with a sentence for each.
+use std::error::Error;
+use std::fmt;
+
+/// Why a record was not brought to the schema.
+///
+/// The numbers are those of document 01, in its checking order. A refused call leaves the result
+/// buffer as it was.
+#[derive(Clone, Copy, Debug, PartialEq, Eq, PartialOrd, Ord, Hash)]
+#[repr(u8)]
+pub enum Refusal {
+    /// 1: the workspace is shorter than 65,536 bytes.
+    WorkspaceTooShort = 1,
+    /// 2: the schema is no frame.
+    SchemaNoFrame = 2,
+    /// 3: the schema's union tables, field names, sizes or defaults are unsound.
+    SchemaUnsound = 3,
+    /// 4: a default becomes longer than 4,096 bytes in its union's first variant.
+    DefaultTooLong = 4,
+    /// 5: the record is no frame, or its map keys don't rise.
+    RecordNoFrame = 5,
+    /// 6: the kind of a value, or its text, doesn't suit the schema.
+    Unsuited = 6,
+    /// 7: a Long is outside Int.
+    LongOutsideInt = 7,
+    /// 8: an item meant as a byte is outside 0 to 255.
+    ItemOutsideByte = 8,
+    /// 9: Bytes or a Fixed meant as a String are not UTF-8.
+    NotUtf8 = 9,
+    /// 10: the size of a Fixed, a Duration or a fixed UUID differs.
+    SizeDiffers = 10,
+    /// 11: UUID text, or the length of UUID bytes, is wrong.
+    UuidWrong = 11,
+    /// 12: a decimal's scale exceeds its precision.
+    ScaleExceedsPrecision = 12,
+    /// 13: a decimal's fixed size is too small for its precision.
+    FixedTooSmall = 13,
+    /// 14: the value's bytes are too few for the decimal's precision.
+    BytesTooFew = 14,
+    /// 15: a symbol is unknown and no default is among the symbols.
+    SymbolUnknown = 15,
+    /// 16: no variant of a union accepts the value.
+    NoVariant = 16,
+    /// 17: a field is missing and has no default.
+    FieldMissing = 17,
+    /// 18: the accepted result exceeds 65,535 bytes or the result buffer.
+    ResultTooLong = 18,
+}
+
+use Refusal::*;
+
+/// In the order of their numbers.
+const ALL: [Refusal; 18] = [
+    WorkspaceTooShort,
+    SchemaNoFrame,
+    SchemaUnsound,
+    DefaultTooLong,
+    RecordNoFrame,
+    Unsuited,
+    LongOutsideInt,
+    ItemOutsideByte,
+    NotUtf8,
+    SizeDiffers,
+    UuidWrong,
+    ScaleExceedsPrecision,
+    FixedTooSmall,
+    BytesTooFew,
+    SymbolUnknown,
+    NoVariant,
+    FieldMissing,
+    ResultTooLong,
+];
+
+impl Refusal {
+    /// Document 01's number, 1 to 18.
+    pub fn number(self) -> u8 {
+        self as u8
+    }
+
+    /// The refusal of a number, if it is 1 to 18.
+    pub fn from_number(number: u8) -> Option<Refusal> {
+        ALL.into_iter().find(|r| r.number() == number)
+    }
+
+    /// All eighteen, in the order of their numbers.
+    pub fn all() -> [Refusal; 18] {
+        ALL
+    }
+
+    /// What to tell whoever sent the record or wrote the schema.
+    fn sentence(self) -> &'static str {
+        match self {
+            WorkspaceTooShort => "the workspace is shorter than 65,536 bytes",
+            SchemaNoFrame => "the reader schema is no frame: a byte, length or text in it is wrong, bytes are left over, or it is nested deeper than 16",
+            SchemaUnsound => "the reader schema is unsound: a union is empty, nested or has wrong tables, a field name repeats, a size is wrong, or a default is of a kind that JSON can't give",
+            DefaultTooLong => "a default in the reader schema becomes longer than 4,096 bytes in the first variant of its union",
+            RecordNoFrame => "the record is no frame: a byte, length or text in it is wrong, bytes are left over, it is nested deeper than 16, or the keys of a map don't rise",
+            Unsuited => "a value in the record is of a kind, or a text, that the schema can't take there",
+            LongOutsideInt => "a Long in the record is too large or too small for the Int that the schema asks for",
+            ItemOutsideByte => "an array stands where the schema asks for bytes, and one of its items is outside 0 to 255",
+            NotUtf8 => "bytes stand where the schema asks for a string, and they are not UTF-8",
+            SizeDiffers => "the bytes of a fixed, a duration or a fixed UUID are more or fewer than the schema asks for",
+            UuidWrong => "a text or bytes stand where the schema asks for a UUID, and they are none",
+            ScaleExceedsPrecision => "a decimal of the schema has a scale greater than its precision",
+            FixedTooSmall => "a decimal of the schema has a fixed size too small for its precision",
+            BytesTooFew => "a decimal in the record has too few bytes for the precision that the schema asks for",
+            SymbolUnknown => "an enum in the record has a symbol that the schema doesn't have, and the schema has no default symbol",
+            NoVariant => "no variant of a union in the schema takes the value that the record has there",
+            FieldMissing => "the record lacks a field for which the schema has no default",
+            ResultTooLong => "the result doesn't fit: it is longer than the result buffer or than 65,535 bytes",
+        }
+    }
+}
+
+impl fmt::Display for Refusal {
+    fn fmt(&self, f: &mut fmt::Formatter<'_>) -> fmt::Result {
+        write!(f, "{} (refusal {})", self.sentence(), self.number())
+    }
+}
+
+impl Error for Refusal {}
+
+#[cfg(test)]
+mod tests {
+    use super::*;
+
+    #[test]
+    fn numbers_are_one_to_eighteen_in_order() {
+        let numbers: Vec<u8> = Refusal::all().iter().map(|r| r.number()).collect();
+        assert_eq!(numbers, (1..=18).collect::<Vec<u8>>());
+    }
+
+    #[test]
+    fn a_number_names_its_refusal_and_no_other_number_does() {
+        for number in 0..=u8::MAX {
+            let named = Refusal::from_number(number).map(Refusal::number);
+            assert_eq!(named, (1..=18).contains(&number).then_some(number));
+        }
+    }
+
+    #[test]
+    fn no_two_sentences_are_equal() {
+        let mut sentences = Refusal::all().map(Refusal::sentence).to_vec();
+        sentences.sort_unstable();
+        sentences.dedup();
+        assert_eq!(sentences.len(), 18);
+    }
+
+    #[test]
+    fn the_text_of_a_refusal_has_its_number() {
+        let text = Refusal::FieldMissing.to_string();
+        assert!(text.ends_with("(refusal 17)"), "{text}");
+    }
+}
