@@ -89,7 +89,7 @@ pub name-reads : (node : List ℕ → Read Schema) (t : List ℕ) → Reads (rea
 unfolding Reads
 name-reads node t r = let q = field-name node t (r .0) (r .1 .0) (r .1 .1) in (r .0 .0, (q .0, q .1))
 
-name-is : (node : List ℕ → Read Schema) (t : List ℕ) (f : Field) (r : List ℕ) → readField node t ≡ some (f, r) → (other : Text) (v : List ℕ) → readCounted t ≡ some (other, v) → other ≡ f .0
+pub name-is : (node : List ℕ → Read Schema) (t : List ℕ) (f : Field) (r : List ℕ) → readField node t ≡ some (f, r) → (other : Text) (v : List ℕ) → readCounted t ≡ some (other, v) → other ≡ f .0
 name-is node t f r e other v g = read-what (sym g ∙ field-name node t f r e .1)
 
 abbrev pub seeks : Text → List Field → Bool

@@ -47,7 +47,7 @@ module _ {A : Type 0} (p : List ℕ → Read A) (s : List ℕ) where
   unfolding readOption _>>=_
   option-zero h e = rw (flag-got s h (omega arith), e)
 
-  option-one : 0 < length s → getD s 0 0 ≡ 1 → readOption p s ≡ onto some (p (drop 1 s))
+  pub option-one : 0 < length s → getD s 0 0 ≡ 1 → readOption p s ≡ onto some (p (drop 1 s))
   unfolding readOption _>>=_
   option-one h e = rw (flag-got s h (omega arith), e)
 

@@ -5,3 +5,5 @@ pub mod Nodes
 pub mod Seeking
 pub mod Checking
 pub mod Defaults
+pub mod Skipping
+pub mod Looking

@@ -4,6 +4,7 @@ mod default;
 mod leaf;
 mod names;
 mod part;
+mod plain;
 mod skip;
 mod table;
 mod whole;

@@ -1,43 +1,34 @@
-// The lengths of schema nodes and of their parts.
-use crate::default::default_check;
-use crate::leaf::leaf_check;
-use crate::part::length_of;
-use crate::table::leads_check;
-use crate::table::positions_check;
-use frame::Checked;
+// The lengths of schema nodes and fields that are known to be there. Only lengths, counts and flags are followed: no text, table
+// or default is looked into again.
+use crate::plain::default_skip;
+use crate::plain::enum_skip;
+use crate::plain::leads_skip;
+use crate::plain::leaf_skip;
+use crate::plain::positions_skip;
 use number::read2;
-use text::Len;
-use text::text_len;
-ghost use mathlib.Core.Path.{_≡_};
-ghost use Rattle.text.specs.Measured.{Measured, Reads};
+use text::content;
+ghost use Rattle.text.specs.Measured.{Reads};
 ghost use Rattle.frame.specs.Readers.{readList};
 ghost use Rattle.frame.specs.SchemaFrame.{readField, readSchemaContent, readSchema};
 ghost use Rattle.frame.specs.Checks.{Spans};
 
-fn schema_skip(s: &[u8], depth: usize) -> Len
-    ensures { λ r. ⌜ Measured (readSchema depth (now (s .entry))) (now (s .entry)) r ⌝ }
+// The length of a schema node.
+pub fn schema_len(s: &[u8], depth: usize) -> usize
+    requires { ⌜ Reads (readSchema depth (now s)) ⌝ }
+    ensures { λ r. ⌜ Spans (readSchema depth (now (s .entry))) (now (s .entry)) r ⌝ }
 {
-    if depth == 0 {
-        return Len::Broken;
-    }
-    if s.len() == 0 {
-        return Len::Broken;
-    }
-    let kind = s[0];
-    let Len::Of(m) = content_skip(&s[1..], kind, depth - 1) else {
-        return Len::Broken;
-    };
-    Len::Of(1 + m)
+    1 + content_skip(&s[1..], s[0], depth - 1)
 }
 
-fn content_skip(s: &[u8], kind: u8, depth: usize) -> Len
-    ensures { λ r. ⌜ Measured (readSchemaContent (readSchema depth) kind (now (s .entry))) (now (s .entry)) r ⌝ }
+fn content_skip(s: &[u8], kind: u8, depth: usize) -> usize
+    requires { ⌜ Reads (readSchemaContent (readSchema depth) kind (now s)) ⌝ }
+    ensures { λ r. ⌜ Spans (readSchemaContent (readSchema depth) kind (now (s .entry))) (now (s .entry)) r ⌝ }
 {
     if kind == 8 {
-        return schema_skip(s, depth);
+        return schema_len(s, depth);
     }
     if kind == 9 {
-        return schema_skip(s, depth);
+        return schema_len(s, depth);
     }
     if kind == 10 {
         return union_skip(s, depth);
@@ -45,95 +36,55 @@ fn content_skip(s: &[u8], kind: u8, depth: usize) -> Len
     if kind == 11 {
         return fields_skip(s, depth);
     }
-    length_of(leaf_check(s, kind))
-}
-
-fn union_skip(s: &[u8], depth: usize) -> Len
-    ensures { λ r. ⌜ Measured (readSchemaContent (readSchema depth) 10 (now (s .entry))) (now (s .entry)) r ⌝ }
-{
-    let Len::Of(a) = variants_skip(s, depth) else {
-        return Len::Broken;
-    };
-    let Checked::Of(b, _) = leads_check(&s[a..], 0) else {
-        return Len::Broken;
-    };
-    let e = a + b;
-    let Checked::Of(d, _) = positions_check(&s[e..], 0) else {
-        return Len::Broken;
-    };
-    Len::Of(e + d)
-}
-
-fn variants_skip(s: &[u8], depth: usize) -> Len
-    ensures { λ r. ⌜ Measured (readList (readSchema depth) (now (s .entry))) (now (s .entry)) r ⌝ }
-{
-    if s.len() < 2 {
-        return Len::Broken;
+    if kind == 12 {
+        return enum_skip(s);
     }
-    let mut left = read2(s, 0) as usize;
+    leaf_skip(s, kind)
+}
+
+// Variants and both tables.
+fn union_skip(s: &[u8], depth: usize) -> usize
+    requires { ⌜ Reads (readSchemaContent (readSchema depth) 10 (now s)) ⌝ }
+    ensures { λ r. ⌜ Spans (readSchemaContent (readSchema depth) 10 (now (s .entry))) (now (s .entry)) r ⌝ }
+{
+    let a = variants_skip(s, depth);
+    let e = a + leads_skip(&s[a..]);
+    e + positions_skip(&s[e..])
+}
+
+fn variants_skip(s: &[u8], depth: usize) -> usize
+    requires { ⌜ Reads (readList (readSchema depth) (now s)) ⌝ }
+    ensures { λ r. ⌜ Spans (readList (readSchema depth) (now (s .entry))) (now (s .entry)) r ⌝ }
+{
+    let mut left = read2(s, 0);
     let mut at: usize = 2;
     while 0 < left {
-        let Len::Of(m) = schema_skip(&s[at..], depth) else {
-            return Len::Broken;
-        };
-        at += m;
+        at += schema_len(&s[at..], depth);
         left -= 1;
     }
-    Len::Of(at)
+    at
 }
 
-fn fields_skip(s: &[u8], depth: usize) -> Len
-    ensures { λ r. ⌜ Measured (readList (readField (readSchema depth)) (now (s .entry))) (now (s .entry)) r ⌝ }
+fn fields_skip(s: &[u8], depth: usize) -> usize
+    requires { ⌜ Reads (readList (readField (readSchema depth)) (now s)) ⌝ }
+    ensures { λ r. ⌜ Spans (readList (readField (readSchema depth)) (now (s .entry))) (now (s .entry)) r ⌝ }
 {
-    if s.len() < 2 {
-        return Len::Broken;
-    }
-    let mut left = read2(s, 0) as usize;
+    let mut left = read2(s, 0);
     let mut at: usize = 2;
     while 0 < left {
-        let Len::Of(m) = field_skip(&s[at..], depth) else {
-            return Len::Broken;
-        };
-        at += m;
+        at += field_len(&s[at..], depth);
         left -= 1;
     }
-    Len::Of(at)
+    at
 }
 
-fn field_skip(s: &[u8], depth: usize) -> Len
-    ensures { λ r. ⌜ Measured (readField (readSchema depth) (now (s .entry))) (now (s .entry)) r ⌝ }
-{
-    let Len::Of(a) = text_len(s) else {
-        return Len::Broken;
-    };
-    let Checked::Of(b, _) = default_check(&s[a..]) else {
-        return Len::Broken;
-    };
-    let e = a + b;
-    let Len::Of(m) = schema_skip(&s[e..], depth) else {
-        return Len::Broken;
-    };
-    Len::Of(e + m)
-}
-
-// The length of a schema node that is known to be there.
-pub fn schema_len(s: &[u8], depth: usize) -> usize
-    requires { ⌜ Reads (readSchema depth (now s)) ⌝ }
-    ensures { λ r. ⌜ Spans (readSchema depth (now (s .entry))) (now (s .entry)) r ⌝ }
-{
-    match schema_skip(s, depth) {
-        Len::Of(n) => n,
-        Len::Broken => 0,
-    }
-}
-
-// The length of a field that is known to be there.
+// The length of a field: name, default and schema.
 pub fn field_len(s: &[u8], depth: usize) -> usize
     requires { ⌜ Reads (readField (readSchema depth) (now s)) ⌝ }
     ensures { λ r. ⌜ Spans (readField (readSchema depth) (now (s .entry))) (now (s .entry)) r ⌝ }
 {
-    match field_skip(s, depth) {
-        Len::Of(n) => n,
-        Len::Broken => 0,
-    }
+    let name = content(s);
+    let a = 2 + name.len();
+    let e = a + default_skip(&s[a..]);
+    e + schema_len(&s[e..], depth)
 }

@@ -1,0 +1,233 @@
+-- A record's field names, each held to the earlier ones: a name whose slot none of them took is new. Assumes nothing.
+use Prim.Native.Nat.{ℕ, zero, suc, _+_, _-_, _*_, _%_, _≤_, _<_}
+use mathlib.Core.Path.{_≡_, refl, sym, ap, _∙_, subst}
+use mathlib.Core.List.{List, [], _∷_, _++_, append-assoc}
+use mathlib.Core.Option.{Option, none, some}
+use mathlib.Core.Bool.{Bool, true, false, _&&_, _||_, not}
+use native.Mathlib.Omega.{arith}
+use native.Mathlib.Nat.{mod-lt}
+use lib.Dec.{T, eqb}
+use lib.ListN.{length, getD, set, drop}
+use lib.Seq.{drop-drop, drop-cons, getD-set-same, getD-set-other}
+use borrow.Author.Tests.{eqb-true, eqb-false}
+use Rattle.text.specs.Text.{Text, same}
+use Rattle.text.specs.Read.{Read, _>>=_, readCounted}
+use Rattle.text.specs.Measured.{Reads}
+use Rattle.text.proofs.TextLaws.{same-refl, same→≡}
+use Rattle.frame.specs.Tree.{Schema}
+use Rattle.frame.specs.Readers.{readMany, readList}
+use Rattle.frame.specs.SchemaFrame.{fieldsOf, readField}
+use Rattle.frame.specs.Sound.{hasField}
+use Rattle.frame.specs.Checks.{Spans}
+use Rattle.schema.specs.Parts.{Field, namesDiffer}
+use Rattle.schema.specs.Slot.{hashFrom, slots, slotOf}
+use Rattle.schema.proofs.Reading.{read-what, read-rest, list-got, many-suc, bind-some, onto}
+use Rattle.schema.proofs.Seeking.{Left, First, many-first, left-start, left-first, left-step, left-end, reads-some, list-long}
+use Rattle.schema.proofs.Checking.{seeks, name-is}
+
+-- ---- slots
+
+pub hash-step : (s : List ℕ) (h i : ℕ) → i < length s → hashFrom ((h * 31 + getD s i 0) % 65536) (drop (i + 1) s) ≡ hashFrom h (drop i s)
+unfolding hashFrom
+hash-step s h i l =
+    let q : i + 1 ≡ suc i = omega arith in
+    ap (λ j. hashFrom ((h * 31 + getD s i 0) % 65536) (drop j s)) q ∙ sym (ap (hashFrom h) (drop-cons s i 0 l))
+
+pub hash-end : (s : List ℕ) (h i : ℕ) → length s ≤ i → hashFrom h (drop i s) ≡ h
+unfolding hashFrom
+hash-end [] h zero l = refl
+hash-end [] h (suc i) l = refl
+hash-end (x ∷ s) h zero l = absurd (omega arith)
+hash-end (x ∷ s) h (suc i) l = hash-end s h i (omega arith)
+
+pub slot-inside : (few : Bool) (t : Text) → slotOf few t < slots few
+unfolding slotOf slots
+slot-inside true t = omega arith
+slot-inside false t = omega arith
+
+-- ---- the slots that names took
+
+unfoldable pub Taken : (Text → ℕ) → List ℕ → List Field → Type 0
+Taken key t [] = Unit {0}
+Taken key t (f ∷ fs) = (getD t (key (f .0)) 0 ≡ 0 → ⊥) × Taken key t fs
+
+same-true : (a b : Text) → same a b ≡ true → a ≡ b
+same-true a b e = same→≡ a b (subst T (sym e) tt)
+
+same-sym : (a b : Text) (x : Bool) → same a b ≡ x → same b a ≡ x
+same-sym a b true e = ap (same b) (same-true a b e) ∙ same-refl b
+same-sym a b false e = go (same b a) refl
+  where
+    go : (y : Bool) → same b a ≡ y → same b a ≡ false
+    go true g = g ∙ sym (ap (same a) (same-true b a g) ∙ same-refl a) ∙ e
+    go false g = g
+
+module _ (key : Text → ℕ) (t : List ℕ) where
+  -- a name whose slot is free
+  pub free-new : (n : Text) (fs : List Field) → Taken key t fs → getD t (key n) 0 ≡ 0 → seeks n fs ≡ false
+  unfolding Taken hasField fieldsOf
+  free-new n [] w e = refl
+  free-new n (f ∷ fs) w e = go (same (f .0) n) refl (free-new n fs (w .1) e)
+    where
+      go : (x : Bool) → same (f .0) n ≡ x → seeks n fs ≡ false → same (f .0) n || seeks n fs ≡ false
+      go true g h = absurd (w .0 (ap (λ m. getD t (key m) 0) (same-true (f .0) n g) ∙ e))
+      go false g h = ap (λ x. x || seeks n fs) g ∙ h
+
+  still : (k j : ℕ) → k < length t → (getD t j 0 ≡ 0 → ⊥) → getD (set t k 1) j 0 ≡ 0 → ⊥
+  still k j h f e = go (eqb j k) refl
+    where
+      go : (x : Bool) → eqb j k ≡ x → ⊥
+      go true g =
+          let z : getD (set t k 1) k 0 ≡ 0 = ap (λ i. getD (set t k 1) i 0) (sym (eqb-true j k g)) ∙ e in
+          omega (arith, getD-set-same t k 1 0 h)
+      go false g = f (sym (getD-set-other t k j 1 0 (eqb-false j k g)) ∙ e)
+
+  -- one more takes its slot
+  pub taken-more : (k : ℕ) → k < length t → (fs : List Field) (f : Field) → k ≡ key (f .0) → Taken key t fs → Taken key (set t k 1) (fs ++ (f ∷ []))
+  unfolding Taken
+  taken-more k h [] f q w = ((λ e. omega (arith, getD-set-same t k 1 0 h, ap (λ i. getD (set t k 1) i 0) q, e)), tt)
+  taken-more k h (g ∷ fs) f q w = (still k (key (g .0)) h (w .0), taken-more k h fs f q (w .1))
+
+-- ---- names before and behind
+
+has-append : (n : Text) (xs ys : List Field) → seeks n (xs ++ ys) ≡ seeks n xs || seeks n ys
+unfolding hasField fieldsOf
+has-append n [] ys = refl
+has-append n (x ∷ xs) ys = ap (λ b. same (x .0) n || b) (has-append n xs ys) ∙ or-assoc (same (x .0) n) (seeks n xs) (seeks n ys)
+  where
+    or-assoc : (a b c : Bool) → a || (b || c) ≡ (a || b) || c
+    or-assoc true b c = refl
+    or-assoc false b c = refl
+
+and-first : (a b : Bool) → a && b ≡ true → a ≡ true
+and-first true b e = refl
+and-first false b e = e
+
+and-second : (a b : Bool) → a && b ≡ true → b ≡ true
+and-second true b e = e
+and-second false b e = let z : _≡_ {A = ℕ} 0 1 = cc in absurd (omega arith)
+
+or-none : (a b : Bool) → a || b ≡ false → (a ≡ false) × (b ≡ false)
+or-none true b e = let z : _≡_ {A = ℕ} 0 1 = cc in absurd (omega arith)
+or-none false b e = (refl, e)
+
+not-true : (a : Bool) → not a ≡ true → a ≡ false
+not-true true e = let z : _≡_ {A = ℕ} 0 1 = cc in absurd (omega arith)
+not-true false e = refl
+
+-- one more that none of them has
+pub differ-more : (xs : List Field) (f : Field) → namesDiffer xs ≡ true → seeks (f .0) xs ≡ false → namesDiffer (xs ++ (f ∷ [])) ≡ true
+unfolding namesDiffer hasField fieldsOf
+differ-more [] f d n = refl
+differ-more (x ∷ xs) f d n =
+    let p = or-none (same (x .0) (f .0)) (seeks (f .0) xs) n in
+    let a : seeks (x .0) xs ≡ false = not-true (seeks (x .0) xs) (and-first (not (seeks (x .0) xs)) (namesDiffer xs) d) in
+    let b : same (f .0) (x .0) ≡ false = same-sym (x .0) (f .0) false (p .0) in
+    let h : seeks (x .0) (xs ++ (f ∷ [])) ≡ false = has-append (x .0) xs (f ∷ []) ∙ ap (λ y. y || (same (f .0) (x .0) || false)) a ∙ ap (λ y. y || false) b in
+    ap (λ y. not y && namesDiffer (xs ++ (f ∷ []))) h ∙ differ-more xs f (and-second (not (seeks (x .0) xs)) (namesDiffer xs) d) (p .1)
+
+-- one that an earlier one has
+pub differ-not : (xs : List Field) (f : Field) (ys : List Field) → seeks (f .0) xs ≡ true → namesDiffer (xs ++ (f ∷ ys)) ≡ false
+unfolding namesDiffer hasField fieldsOf
+differ-not [] f ys n = let z : _≡_ {A = ℕ} 0 1 = cc in absurd (omega arith)
+differ-not (x ∷ xs) f ys n = go (same (x .0) (f .0)) refl (λ h. differ-not xs f ys h)
+  where
+    or-true : (a : Bool) → a || true ≡ true
+    or-true true = refl
+    or-true false = refl
+
+    and-false : (a : Bool) → a && false ≡ false
+    and-false true = refl
+    and-false false = refl
+
+    go : (b : Bool) → same (x .0) (f .0) ≡ b → (seeks (f .0) xs ≡ true → namesDiffer (xs ++ (f ∷ ys)) ≡ false) → namesDiffer ((x ∷ xs) ++ (f ∷ ys)) ≡ false
+    go true e later =
+        let h : seeks (x .0) (xs ++ (f ∷ ys)) ≡ true = has-append (x .0) xs (f ∷ ys) ∙ ap (λ y. seeks (x .0) xs || (y || seeks (x .0) ys)) (same-sym (x .0) (f .0) true e) ∙ or-true (seeks (x .0) xs) in
+        ap (λ y. not y && namesDiffer (xs ++ (f ∷ ys))) h
+    go false e later =
+        let h : seeks (f .0) xs ≡ true = sym (ap (λ y. y || seeks (f .0) xs) e) ∙ n in
+        ap (λ y. not (seeks (x .0) (xs ++ (f ∷ ys))) && y) (later h) ∙ and-false (not (seeks (x .0) (xs ++ (f ∷ ys))))
+
+-- ---- one thing more that was read
+
+pub many-more : {A : Type 0} (p : List ℕ → Read A) (n : ℕ) (s : List ℕ) (xs : List A) (t : List ℕ) (a : A) (u : List ℕ) → readMany p n s ≡ some (xs, t) → p t ≡ some (a, u) → readMany p (suc n) s ≡ some (xs ++ (a ∷ []), u)
+unfolding readMany _>>=_
+many-more p zero s xs t a u e g =
+    let q : p s ≡ some (a, u) = ap p (read-rest e) ∙ g in
+    bind-some (a, u) _ q ∙ ap (λ l. some (l ++ (a ∷ []), u)) (read-what e)
+many-more p (suc n) s xs t a u e g =
+    let w = many-first p (suc n) s xs t (omega arith) e in
+    let q : n ≡ suc n - 1 = omega arith in
+    let v : readMany p n (w .behind) ≡ some (w .others, t) = ap (λ k. readMany p k (w .behind)) q ∙ w .reads in
+    bind-some (w .item, w .behind) _ (w .first) ∙ bind-some (w .others ++ (a ∷ []), u) _ (many-more p n (w .behind) (w .others) t a u v g) ∙ ap (λ l. some (l ++ (a ∷ []), u)) (sym (w .cons))
+
+spans-behind : {A : Type 0} (x : Read A) (t : List ℕ) (m : ℕ) → Spans x t m → (a : A) (r : List ℕ) → x ≡ some (a, r) → r ≡ drop m t
+unfolding Spans
+spans-behind x t m w a r e = read-rest (sym e ∙ w .1 .1)
+
+-- ---- the loop over the fields: what was read, and what is left
+
+pub record Looking (node : List ℕ → Read Schema) (key : Text → ℕ) (s : List ℕ) (table : List ℕ) (left at done : ℕ) : Type 0 where
+  pub before : List Field
+  pub rest : Left (readList (readField node) s) (readField node) (λ l. l) (λ l. before ++ l) s at left
+  pub front : readMany (readField node) done (drop 2 s) ≡ some (before, drop at s)
+  pub differ : namesDiffer before ≡ true
+  pub taken : Taken key table before
+
+module _ (node : List ℕ → Read Schema) (key : Text → ℕ) (s : List ℕ) where
+  pub looking-start : (table : List ℕ) (n : ℕ) → Reads (readList (readField node) s) → readList (readField node) s ≡ readMany (readField node) n (drop 2 s) → Looking node key s table n 2 0
+  unfolding readMany namesDiffer Taken
+  looking-start table n r e = record {
+    before = [];
+    rest = left-start _ (readField node) (λ l. l) (λ l. [] ++ l) s 2 n (list-long _ s r) e r (λ l. refl);
+    front = refl;
+    differ = refl;
+    taken = tt;
+  }
+
+  module _ (table : List ℕ) (left at done : ℕ) (w : Looking node key s table left at done) where
+    pub looking-reads : Reads (readMany (readField node) done (drop 2 s))
+    looking-reads = reads-some _ (w .before) (drop at s) (w .front)
+
+    -- a free slot
+    pub looking-free : (n : Text) (k : ℕ) → k ≡ key n → getD table k 0 ≡ 0 → (fs : List Field) (u : List ℕ) → readMany (readField node) done (drop 2 s) ≡ some (fs, u) → seeks n fs ≡ false
+    looking-free n k q e fs u g =
+        ap (seeks n) (sym (read-what (sym (w .front) ∙ g))) ∙ free-new key table n (w .before) (w .taken) (ap (λ i. getD table i 0) (sym q) ∙ e)
+
+    pub looking-end : left ≤ 0 → (fs : List Field) (u : List ℕ) → readList (readField node) s ≡ some (fs, u) → true ≡ namesDiffer fs
+    looking-end h fs u e =
+        sym (ap namesDiffer (left-end _ (readField node) (λ l. l) (λ l. w .before ++ l) s at left (w .rest) h fs u e ∙ append-nil (w .before)) ∙ w .differ)
+      where
+        append-nil : (l : List Field) → l ++ [] ≡ l
+        append-nil [] = refl
+        append-nil (x ∷ l) = ap (λ y. x ∷ y) (append-nil l)
+
+    module _ (h : 0 < left) (name : Text) (v : List ℕ) (g : readCounted (drop at s) ≡ some (name, v)) (has : Bool)
+        (tells : (fs : List Field) (u : List ℕ) → readMany (readField node) done (drop 2 s) ≡ some (fs, u) → has ≡ seeks name fs) where
+      abbrev next : First (readField node) left (drop at s) (w .rest .rest) (w .rest .after)
+      next = left-first _ (readField node) (λ l. l) (λ l. w .before ++ l) s at left (w .rest) h
+
+      named : name ≡ next .item .0
+      named = name-is node (drop at s) (next .item) (next .behind) (next .first) name v g
+
+      seen : has ≡ seeks (next .item .0) (w .before)
+      seen = tells (w .before) (drop at s) (w .front) ∙ ap (λ n. seeks n (w .before)) named
+
+      pub looking-hit : has ≡ true → (fs : List Field) (u : List ℕ) → readList (readField node) s ≡ some (fs, u) → false ≡ namesDiffer fs
+      looking-hit t fs u e =
+          sym (ap namesDiffer (w .rest .tells fs u e ∙ ap (λ l. w .before ++ l) (next .cons)) ∙ differ-not (w .before) (next .item) (next .others) (sym seen ∙ t))
+
+      pub looking-step : has ≡ false → (k : ℕ) → k ≡ key name → k < length table → (m : ℕ) → Spans (readField node (drop at s)) (drop at s) m → Looking node key s (set table k 1) (left - 1) (at + m) (done + 1)
+      looking-step t k q l m z = record {
+        before = w .before ++ (next .item ∷ []);
+        rest = left-step _ (readField node) (λ l. l) (λ l. w .before ++ l) s at left (w .rest) (λ l. w .before ++ (next .item ∷ []) ++ l) h m z (sym (append-assoc (w .before) (next .item ∷ []) (next .others)));
+        front = ap (λ k. readMany (readField node) k (drop 2 s)) one-more ∙ many-more (readField node) done (drop 2 s) (w .before) (drop at s) (next .item) (drop (at + m) s) (w .front) (next .first ∙ ap (λ r. some (next .item, r)) behind);
+        differ = differ-more (w .before) (next .item) (w .differ) (sym seen ∙ t);
+        taken = taken-more key table k l (w .before) (next .item) (q ∙ ap key named) (w .taken);
+      }
+        where
+          one-more : done + 1 ≡ suc done
+          one-more = omega arith
+
+          behind : next .behind ≡ drop (at + m) s
+          behind = spans-behind _ (drop at s) m z (next .item) (next .behind) (next .first) ∙ drop-drop m at s

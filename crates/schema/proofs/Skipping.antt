@@ -1,0 +1,217 @@
+-- The length of schema nodes and their parts that are known to be there: what can be read in them, and how long they are by their
+-- parts. Assumes nothing.
+use Prim.Native.Nat.{ℕ, zero, suc, _+_, _-_, _*_, _≤_, _<_}
+use mathlib.Core.Path.{_≡_, refl, sym, ap, _∙_, subst}
+use mathlib.Core.List.{List, [], _∷_}
+use mathlib.Core.Option.{Option, none, some}
+use mathlib.Core.Bool.{Bool, true, false}
+use native.Mathlib.Omega.{arith}
+use lib.Dec.{leb, eqb}
+use lib.ListN.{length, drop, getD, length-drop}
+use lib.Seq.{drop-drop}
+use borrow.Author.Tests.{eqb-true, eqb-false, le-leb, lt-leb, ne-eqb}
+use Rattle.base.specs.Base.{if_then_else_}
+use Rattle.number.specs.Number.{numberAt}
+use Rattle.text.specs.Text.{Text}
+use Rattle.text.specs.Read.{Read, _>>=_, readNumber, readCounted, readText}
+use Rattle.text.specs.Measured.{Reads}
+use Rattle.text.proofs.ReadLaws.{reads-text}
+use Rattle.frame.specs.Tree.{Value, Schema, Variants}
+use Rattle.frame.specs.Readers.{readFlag, readMany, readList, readOption}
+use Rattle.frame.specs.ValueFrame.{readValue}
+use Rattle.frame.specs.SchemaFrame.{fieldsOf, variantsOf, readField, readLead, readUuidForm, readSchemaContent, readSchema}
+use Rattle.frame.specs.Checks.{Spans}
+use Rattle.value.proofs.ReaderLaws.{mapRead, reads-eq, reads-first, reads-behind, reads-flag, not-reads, reads-list, list-many, many-zero, spans-le, spans-some, spans-eq, spans-drop, spans-map, spans-after, number-spans, text-spans}
+use Rattle.schema.proofs.Leaves.{option-zero, option-one, option-other}
+use Rattle.schema.proofs.Nodes.{node-deep, node-empty, node-open, array-content, map-content, record-content}
+
+-- ---- two and three things, one behind the other
+
+module _ {A B C : Type 0} (x : Read A) (p : List ℕ → Read B) (g : A → B → C) (s : List ℕ) (r : Reads (x >>= (λ y. mapRead (g (y .0)) (p (y .1))))) where
+  pub two-first : Reads x
+  two-first = reads-first x _ r
+
+  pub two-second : (a : ℕ) → Spans x s a → Reads (p (drop a s))
+  two-second a w = reads-first (p (drop a s)) _ (reads-behind x _ s a w r .1)
+
+  pub two-spans : (a b : ℕ) → Spans x s a → Spans (p (drop a s)) (drop a s) b → Spans (x >>= (λ y. mapRead (g (y .0)) (p (y .1)))) s (a + b)
+  two-spans a b w v = spans-after x _ s a b w (λ y. spans-map (g y) (p (drop a s)) (drop a s) b v)
+
+module _ {A B C D : Type 0} (x : Read A) (p : List ℕ → Read B) (q : List ℕ → Read C) (g : A → B → C → D) (s : List ℕ) (r : Reads (x >>= (λ y. p (y .1) >>= (λ z. mapRead (g (y .0) (z .0)) (q (z .1)))))) where
+  pub three-first : Reads x
+  three-first = reads-first x _ r
+
+  module _ (a : ℕ) (w : Spans x s a) where
+    behind : (y : A) × Reads (p (drop a s) >>= (λ z. mapRead (g y (z .0)) (q (z .1))))
+    behind = reads-behind x _ s a w r
+
+    pub three-second : Reads (p (drop a s))
+    three-second = reads-first (p (drop a s)) _ (behind .1)
+
+    module _ (b : ℕ) (v : Spans (p (drop a s)) (drop a s) b) where
+      pub three-third : Reads (q (drop (a + b) s))
+      three-third = reads-eq _ _ (ap q (drop-drop b a s)) (two-second (p (drop a s)) q (g (behind .0)) (drop a s) (behind .1) b v)
+
+      pub three-spans : (c : ℕ) → Spans (q (drop (a + b) s)) (drop (a + b) s) c → Spans (x >>= (λ y. p (y .1) >>= (λ z. mapRead (g (y .0) (z .0)) (q (z .1))))) s (a + b + c)
+      three-spans c u =
+          let t : Spans (q (drop b (drop a s))) (drop b (drop a s)) c = subst (λ l. Spans (q l) l c) (sym (drop-drop b a s)) u in
+          subst (Spans _ s) (omega arith)
+          (spans-after x _ s a (b + c) w (λ y. spans-after (p (drop a s)) _ (drop a s) b c v (λ z. spans-map (g y z) (q (drop b (drop a s))) (drop b (drop a s)) c t)))
+
+-- ---- many things of one width: f n bytes for n of them
+
+module _ {A : Type 0} (p : List ℕ → Read A) (w : ℕ) (f : ℕ → ℕ) (none : f 0 ≡ 0) (more : (n : ℕ) → f (suc n) ≡ w + f n) (one : (s : List ℕ) → Reads (p s) → Spans (p s) s w) where
+  many-spans : (n : ℕ) (s : List ℕ) → Reads (readMany p n s) → Spans (readMany p n s) s (f n)
+  unfolding readMany
+  many-spans zero s r = rw none (spans-some (readMany p 0 s) s 0 [] (omega arith) refl)
+  many-spans (suc n) s r =
+      let v = one s (reads-first (p s) _ r) in
+      let t = reads-first (readMany p n (drop w s)) _ (reads-behind (p s) _ s w v r .1) in
+      rw (more n) (spans-after (p s) _ s w (f n) v (λ a. spans-map (λ xs. a ∷ xs) (readMany p n (drop w s)) (drop w s) (f n) (many-spans n (drop w s) t)))
+
+  list-spans : (s : List ℕ) (n : ℕ) → Reads (readList p s) → n ≡ numberAt s 0 2 → Spans (readList p s) s (2 + f n)
+  list-spans s n r e =
+      let h = reads-list p s r in
+      let q : readList p s ≡ readMany p n (drop 2 s) = list-many p s h ∙ ap (λ k. readMany p k (drop 2 s)) (sym e) in
+      spans-eq _ _ s _ q (spans-drop _ s 2 (f n) h (many-spans n (drop 2 s) (reads-eq _ _ q r)))
+
+lead-spans : (s : List ℕ) → Reads (readLead s) → Spans (readLead s) s 3
+unfolding readLead
+lead-spans s r =
+    let a = number-spans 1 s (two-first (readNumber 1 s) (readNumber 2) (λ k p. (k, p)) s r) in
+    two-spans (readNumber 1 s) (readNumber 2) (λ k p. (k, p)) s r 1 2 a (number-spans 2 (drop 1 s) (two-second (readNumber 1 s) (readNumber 2) (λ k p. (k, p)) s r 1 a))
+
+pub leads-spans : (s : List ℕ) (n : ℕ) → Reads (readList readLead s) → n ≡ numberAt s 0 2 → Spans (readList readLead s) s (2 + 3 * n)
+leads-spans = list-spans readLead 3 (λ n. 3 * n) (omega arith) (λ n. omega arith) lead-spans
+
+pub positions-spans : (s : List ℕ) (n : ℕ) → Reads (readList (readNumber 2) s) → n ≡ numberAt s 0 2 → Spans (readList (readNumber 2) s) s (2 + 2 * n)
+positions-spans = list-spans (readNumber 2) 2 (λ n. 2 * n) (omega arith) (λ n. omega arith) (number-spans 2)
+
+-- ---- texts, by the part that holds their bytes
+
+pub text-held : (s t : List ℕ) → Reads (readText s) → readCounted s ≡ some (t, drop (2 + length t) s) → 2 + length t ≤ length s → Spans (readText s) s (2 + length t)
+text-held s t r e h = text-spans s (2 + length t) r (spans-some (readCounted s) s (2 + length t) t h e)
+
+-- ---- 00, or 01 and a thing
+
+module _ {A : Type 0} (p : List ℕ → Read A) (s : List ℕ) (r : Reads (readOption p s)) where
+  pub option-long : 1 ≤ length s
+  unfolding readOption
+  option-long = reads-flag s (reads-first (readFlag s) _ r)
+
+  pub option-none-spans : getD s 0 0 ≡ 0 → Spans (readOption p s) s 1
+  option-none-spans e = spans-some _ s 1 none option-long (option-zero p s option-long e)
+
+  module _ (f : getD s 0 0 ≡ 0 → ⊥) where
+    flag-one : getD s 0 0 ≡ 1
+    flag-one = go (eqb (getD s 0 0) 1) refl
+      where
+        go : (b : Bool) → eqb (getD s 0 0) 1 ≡ b → getD s 0 0 ≡ 1
+        go true e = eqb-true _ _ e
+        go false e = absurd (not-reads _ (option-other p s option-long f (eqb-false _ _ e)) r)
+
+    pub option-thing : Reads (p (drop 1 s))
+    option-thing = reads-first (p (drop 1 s)) _ (reads-eq _ _ (option-one p s option-long flag-one) r)
+
+    pub option-some-spans : (m : ℕ) → Spans (p (drop 1 s)) (drop 1 s) m → Spans (readOption p s) s (1 + m)
+    option-some-spans m w = spans-eq _ _ s _ (option-one p s option-long flag-one) (spans-drop _ s 1 m option-long (spans-map some (p (drop 1 s)) (drop 1 s) m w))
+
+-- ---- the content of a node
+
+not-parent : (k j : ℕ) → (8 ≤ k → 11 < k) → 8 ≤ j → j ≤ 11 → k ≡ j → ⊥
+not-parent k j h l u e = let z = h (omega arith) in omega arith
+
+-- a kind without child nodes has the same content whatever reads the children
+pub leaf-content : (node other : List ℕ → Read Schema) (k : ℕ) (s : List ℕ) → (8 ≤ k → 11 < k) → readSchemaContent node k s ≡ readSchemaContent other k s
+unfolding readSchemaContent
+leaf-content node other k s h =
+    rw (ne-eqb k 8 (not-parent k 8 h (omega arith) (omega arith)), ne-eqb k 9 (not-parent k 9 h (omega arith) (omega arith)), ne-eqb k 10 (not-parent k 10 h (omega arith) (omega arith)), ne-eqb k 11 (not-parent k 11 h (omega arith) (omega arith)))
+
+module _ (node : List ℕ → Read Schema) (s : List ℕ) where
+  module _ (r : Reads (readSchemaContent node 8 s)) where
+    pub array-known : Reads (node s)
+    array-known = reads-first (node s) _ (reads-eq _ _ (array-content node s) r)
+
+    pub array-spans : (n : ℕ) → Spans (node s) s n → Spans (readSchemaContent node 8 s) s n
+    array-spans n w = spans-eq _ _ s n (array-content node s) (spans-map Schema.Array (node s) s n w)
+
+  module _ (r : Reads (readSchemaContent node 9 s)) where
+    pub map-known : Reads (node s)
+    map-known = reads-first (node s) _ (reads-eq _ _ (map-content node s) r)
+
+    pub map-spans : (n : ℕ) → Spans (node s) s n → Spans (readSchemaContent node 9 s) s n
+    map-spans n w = spans-eq _ _ s n (map-content node s) (spans-map Schema.Map (node s) s n w)
+
+  module _ (r : Reads (readSchemaContent node 11 s)) where
+    pub record-known : Reads (readList (readField node) s)
+    record-known = reads-first (readList (readField node) s) _ (reads-eq _ _ (record-content node s) r)
+
+    pub record-spans : (n : ℕ) → Spans (readList (readField node) s) s n → Spans (readSchemaContent node 11 s) s n
+    record-spans n w = spans-eq _ _ s n (record-content node s) (spans-map _ (readList (readField node) s) s n w)
+
+  module _ (r : Reads (readSchemaContent node 10 s)) where
+    pub union-variants : Reads (readList node s)
+    unfolding readSchemaContent
+    union-variants = three-first (readList node s) (readList readLead) (readList (readNumber 2)) (λ vs ks ns. Schema.Union (variantsOf vs) ks ns) s r
+
+    pub union-leads : (a : ℕ) → Spans (readList node s) s a → Reads (readList readLead (drop a s))
+    unfolding readSchemaContent
+    union-leads = three-second (readList node s) (readList readLead) (readList (readNumber 2)) (λ vs ks ns. Schema.Union (variantsOf vs) ks ns) s r
+
+    pub union-positions : (a : ℕ) → Spans (readList node s) s a → (b : ℕ) → Spans (readList readLead (drop a s)) (drop a s) b → Reads (readList (readNumber 2) (drop (a + b) s))
+    unfolding readSchemaContent
+    union-positions = three-third (readList node s) (readList readLead) (readList (readNumber 2)) (λ vs ks ns. Schema.Union (variantsOf vs) ks ns) s r
+
+    pub union-spans : (a : ℕ) → Spans (readList node s) s a → (b : ℕ) → Spans (readList readLead (drop a s)) (drop a s) b → (c : ℕ) → Spans (readList (readNumber 2) (drop (a + b) s)) (drop (a + b) s) c
+        → Spans (readSchemaContent node 10 s) s (a + b + c)
+    unfolding readSchemaContent
+    union-spans = three-spans (readList node s) (readList readLead) (readList (readNumber 2)) (λ vs ks ns. Schema.Union (variantsOf vs) ks ns) s r
+
+  module _ (r : Reads (readSchemaContent node 12 s)) where
+    pub enum-symbols : Reads (readList readText s)
+    unfolding readSchemaContent
+    enum-symbols = two-first (readList readText s) (readOption readText) Schema.Enum s r
+
+    pub enum-default : (a : ℕ) → Spans (readList readText s) s a → Reads (readOption readText (drop a s))
+    unfolding readSchemaContent
+    enum-default = two-second (readList readText s) (readOption readText) Schema.Enum s r
+
+    pub enum-spans : (a b : ℕ) → Spans (readList readText s) s a → Spans (readOption readText (drop a s)) (drop a s) b → Spans (readSchemaContent node 12 s) s (a + b)
+    unfolding readSchemaContent
+    enum-spans = two-spans (readList readText s) (readOption readText) Schema.Enum s r
+
+  module _ (r : Reads (readField node s)) where
+    pub field-text : Reads (readText s)
+    unfolding readField
+    field-text = three-first (readText s) (readOption (readValue 16)) node (λ name d f. (name, d, f)) s r
+
+    pub field-default : (a : ℕ) → Spans (readText s) s a → Reads (readOption (readValue 16) (drop a s))
+    unfolding readField
+    field-default = three-second (readText s) (readOption (readValue 16)) node (λ name d f. (name, d, f)) s r
+
+    pub field-schema : (a : ℕ) → Spans (readText s) s a → (b : ℕ) → Spans (readOption (readValue 16) (drop a s)) (drop a s) b → Reads (node (drop (a + b) s))
+    unfolding readField
+    field-schema = three-third (readText s) (readOption (readValue 16)) node (λ name d f. (name, d, f)) s r
+
+    pub field-spans : (a : ℕ) → Spans (readText s) s a → (b : ℕ) → Spans (readOption (readValue 16) (drop a s)) (drop a s) b → (c : ℕ) → Spans (node (drop (a + b) s)) (drop (a + b) s) c
+        → Spans (readField node s) s (a + b + c)
+    unfolding readField
+    field-spans = three-spans (readText s) (readOption (readValue 16)) node (λ name d f. (name, d, f)) s r
+
+-- ---- a node
+
+module _ (d : ℕ) (s : List ℕ) (r : Reads (readSchema d s)) where
+  pub known-depth : d ≡ 0 → ⊥
+  known-depth e = not-reads _ (node-deep d s e) r
+
+  known-empty : length s ≡ 0 → ⊥
+  known-empty e = not-reads _ (node-empty d s e) r
+
+  pub known-byte : 1 ≤ length s
+  known-byte = let z = known-empty in omega arith
+
+  pub known-content : Reads (readSchemaContent (readSchema (d - 1)) (getD s 0 0) (drop 1 s))
+  known-content = reads-eq _ _ (node-open d s known-depth known-empty) r
+
+  pub schema-spans : (n : ℕ) → Spans (readSchemaContent (readSchema (d - 1)) (getD s 0 0) (drop 1 s)) (drop 1 s) n → Spans (readSchema d s) s (1 + n)
+  schema-spans n w = spans-eq _ _ s _ (node-open d s known-depth known-empty) (spans-drop _ s 1 n known-byte w)

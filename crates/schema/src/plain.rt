@@ -1,0 +1,87 @@
+// The lengths of parts of schema nodes that hold no node and are known to be there.
+use crate::leaf::leaf_check;
+use frame::Checked;
+use number::read2;
+use text::content;
+use value::value_len;
+ghost use Prim.Native.Nat.{_≤_, _<_};
+ghost use Rattle.text.specs.Read.{readNumber, readText};
+ghost use Rattle.text.specs.Measured.{Reads};
+ghost use Rattle.frame.specs.Readers.{readList, readOption};
+ghost use Rattle.frame.specs.ValueFrame.{readValue};
+ghost use Rattle.frame.specs.SchemaFrame.{readLead, readSchemaContent, readSchema};
+ghost use Rattle.frame.specs.Checks.{Spans};
+
+// 00, or 01 and a value.
+pub fn default_skip(s: &[u8]) -> usize
+    requires { ⌜ Reads (readOption (readValue 16) (now s)) ⌝ }
+    ensures { λ r. ⌜ Spans (readOption (readValue 16) (now (s .entry))) (now (s .entry)) r ⌝ }
+{
+    if s[0] == 0 {
+        return 1;
+    }
+    1 + value_len(&s[1..], 16)
+}
+
+// 00, or 01 and a text.
+fn option_text_skip(s: &[u8]) -> usize
+    requires { ⌜ Reads (readOption readText (now s)) ⌝ }
+    ensures { λ r. ⌜ Spans (readOption readText (now (s .entry))) (now (s .entry)) r ⌝ }
+{
+    if s[0] == 0 {
+        return 1;
+    }
+    let default = content(&s[1..]);
+    3 + default.len()
+}
+
+// A count and as many texts.
+fn texts_skip(s: &[u8]) -> usize
+    requires { ⌜ Reads (readList readText (now s)) ⌝ }
+    ensures { λ r. ⌜ Spans (readList readText (now (s .entry))) (now (s .entry)) r ⌝ }
+{
+    let mut left = read2(s, 0);
+    let mut at: usize = 2;
+    while 0 < left {
+        let symbol = content(&s[at..]);
+        at += 2 + symbol.len();
+        left -= 1;
+    }
+    at
+}
+
+// Symbols and default.
+pub fn enum_skip(s: &[u8]) -> usize
+    requires { ⌜ Reads (readSchemaContent (readSchema 0) 12 (now s)) ⌝ }
+    ensures { λ r. ⌜ Spans (readSchemaContent (readSchema 0) 12 (now (s .entry))) (now (s .entry)) r ⌝ }
+{
+    let a = texts_skip(s);
+    a + option_text_skip(&s[a..])
+}
+
+// The content of a kind without child nodes or texts: its check reads a few bytes.
+pub fn leaf_skip(s: &[u8], kind: u8) -> usize
+    requires { ⌜ (8 ≤ kind → 11 < kind) × Reads (readSchemaContent (readSchema 0) kind (now s)) ⌝ }
+    ensures { λ r. ⌜ Spans (readSchemaContent (readSchema 0) kind (now (s .entry))) (now (s .entry)) r ⌝ }
+{
+    match leaf_check(s, kind) {
+        Checked::Of(n, _) => n,
+        Checked::Broken => 0,
+    }
+}
+
+// The kind table: 3 bytes for each entry.
+pub fn leads_skip(s: &[u8]) -> usize
+    requires { ⌜ Reads (readList readLead (now s)) ⌝ }
+    ensures { λ r. ⌜ Spans (readList readLead (now (s .entry))) (now (s .entry)) r ⌝ }
+{
+    2 + 3 * (read2(s, 0) as usize)
+}
+
+// The named positions: 2 bytes for each.
+pub fn positions_skip(s: &[u8]) -> usize
+    requires { ⌜ Reads (readList (readNumber 2) (now s)) ⌝ }
+    ensures { λ r. ⌜ Spans (readList (readNumber 2) (now (s .entry))) (now (s .entry)) r ⌝ }
+{
+    2 + 2 * (read2(s, 0) as usize)
+}
