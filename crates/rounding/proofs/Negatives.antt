@@ -2,18 +2,15 @@
 use mathlib.Core.Path.{_≡_, refl, sym, ap, _∙_, subst}
 use mathlib.Core.Bool.{Bool, true, false, true≢false}
 use Prim.Native.Nat.{ℕ, zero, suc, _+_, _*_, _≤_, _<_, _^_}
-use native.Mathlib.Nat.{lt-of-lt-of-le, le-of-lt, lt-suc-self, zero-add}
+use native.Mathlib.Nat.{lt-of-lt-of-le, le-of-lt, lt-suc-self}
 use lib.IntN.{ℤ, pos, negsuc, sucℤ, _+ℤ_, _-ℤ_, natAbs, +ℤ-idl, +ℤ-one}
 use lib.Signed.{leZ}
 use lib.Dec.{leb·zero}
 use mir.Syntax.{Width}
-use mir.Val.{SFits, bits, hbits, toZ, ofZ}
+use mir.Val.{SFits, hbits, toZ, ofZ}
 use mir.ValLaws.{toZ-ofZ, toZ-pos}
 use lib.Signed.{mag}
-use Rattle.rounding.specs.Rounding.{toTwos, low, signBit, roundUnits, magnitude, ofInteger}
-use lib.Ieee.{Format, neg, ofInt}
-use Rattle.std.proofs.num.Nearest.{turn}
-use native.Mathlib.Numerals.{add-one}
+use Rattle.rounding.specs.Rounding.{toTwos}
 use native.Mathlib.Omega.{arith}
 
 abbrev back : Width → ℤ → ℤ
@@ -64,28 +61,7 @@ module _ (w : Width) (k : ℕ) (h : k < 2 ^ hbits w) where
 pub signed-content : (w : Width) (k : ℕ) (z : ℤ) {r t : ℕ} → mag z < 2 ^ hbits w → r ≡ toTwos k (toZ w (ofZ w z)) → t ≡ toTwos k z → r ≡ t
 signed-content w k z h e f = e ∙ ap (toTwos k) (toZ-ofZ w z (record { sfits = h })) ∙ sym f
 
--- ---- what a test of the sign says
-pub positive-is : (w : Width) (z : ℤ) → SFits w z → leZ (pos 0) (back w z) ≡ true → pos (natAbs z) ≡ z
-positive-is w (pos a) F t = refl
-positive-is w (negsuc a) F t = absurd (true≢false (sym t ∙ ap (leZ (pos 0)) (toZ-ofZ w (negsuc a) F)))
-
+-- ---- the magnitude of a number that the width holds
 pub magnitude-fits : (w : Width) (z : ℤ) → SFits w z → natAbs z ≤ 2 ^ hbits w
 magnitude-fits w (pos a) F = le-of-lt (F .sfits)
 magnitude-fits w (negsuc a) F = F .sfits
-
-module _ (p e : ℕ) (w : Width) (z : ℤ) (F : SFits w z) where
-  pub of-positive : leZ (pos 0) (back w z) ≡ true → ofInteger p e z ≡ magnitude p e (roundUnits p (natAbs z * 2 ^ low p e) 1)
-  unfolding ofInteger
-  of-positive t = ap (ofInteger p e) (sym (positive-is w z F t)) ∙ zero-add (magnitude p e (roundUnits p (natAbs z * 2 ^ low p e) 1))
-
-  pub of-negative : leZ (pos 0) (back w z) ≡ false → ofInteger p e z ≡ signBit p e + magnitude p e (roundUnits p (natAbs z * 2 ^ low p e) 1)
-  unfolding ofInteger
-  of-negative t =
-      let k = natAbs (turned w z) in
-      ap (ofInteger p e) (sym (negative-is w z F t)) ∙ ap (λ (m : ℕ). signBit p e + magnitude p e (roundUnits p (m * 2 ^ low p e) 1)) (ap natAbs (negative-is w z F t))
-
--- ---- a float with its sign turned
-pub turned-float : (f : Format) (w : Width) (z : ℤ) → SFits w z → leZ (pos 0) (back w z) ≡ false → 2 ^ hbits w + 2 ^ hbits w ≤ 2 ^ bits w → neg (ofInt f (pos (natAbs z))) ≡ ofInt f z
-turned-float f w z F t h =
-    ap (λ (m : ℕ). neg (ofInt f (pos m))) (sym (ap natAbs (negative-is w z F t)) ∙ sym (add-one (natAbs (turned w z))))
-    ∙ turn w z h F t .4 f

@@ -15,33 +15,19 @@ fn nearest_quotient(n: u64, d: u64) -> u64
     (n + (d / 2 - 1) + n / d % 2) / d
 }
 
-// The f32 nearest to n. Each half of n is a float exactly, and so is the high half times 2^16: only
-// the sum rounds.
-fn nearest_float(n: u32) -> f32
-    ensures { λ r. ⌜ r ≡ ofInt binary32 (pos n) ⌝ }
-{
-    ((n >> 16) as f32) * 65536.0 + ((n & 0xffff) as f32)
-}
-
-// The f64 nearest to n, by halves of 32 digits.
-fn nearest_double(n: u64) -> f64
-    ensures { λ r. ⌜ r ≡ ofInt binary64 (pos n) ⌝ }
-{
-    ((n >> 32) as f64) * 4294967296.0 + ((n & 0xffff_ffff) as f64)
-}
-
-// The pattern of the f32 nearest to n, for Long to Float. Numbers up to 2^24 are floats exactly. A
-// larger one keeps its 24 leading digits, and the k that are dropped round once.
+// The pattern of the f32 nearest to n, for Long to Float. t has 63 digits, and is n with its leading
+// digit moved to the front; of these 24 are kept, and the 39 that are dropped round once.
 fn nearest_float_bits(n: u64) -> u32
     requires { ⌜ n ≤ 2 ^ 63 ⌝ }
     ensures { λ r. ⌜ r ≡ magnitude 24 127 (roundUnits 24 (n * 2 ^ 149) 1) ⌝ }
 {
-    if n <= 16777216 {
-        return f32::to_bits(n as f32);
+    if n == 0 {
+        return 0;
     }
-    let k = 40 - (u64::leading_zeros(n) as u64);
-    let q = nearest_quotient(n, 1u64 << k);
-    ((k + 149) * 8388608 + q) as u32
+    let z = u64::leading_zeros(n) as u64;
+    let t = (n << z) >> 1;
+    let q = nearest_quotient(t, 0x80_0000_0000);
+    ((189 - z) * 8388608 + q) as u32
 }
 
 // A double's pattern with its sign clear and no NaN's, as the nearest float's pattern. x is the
@@ -78,16 +64,6 @@ pub fn narrow(b: u64) -> u32
 
 // An integer without its sign. -n does not fit at the least one, so this negates n + 1, and adds the
 // one back after the cast.
-fn magnitude32(n: i32) -> u32
-    ensures { λ r. ⌜ r ≡ natAbs n ⌝ }
-{
-    if n >= 0 {
-        n as u32
-    } else {
-        ((0 - (n + 1)) as u32) + 1
-    }
-}
-
 fn magnitude64(n: i64) -> u64
     ensures { λ r. ⌜ r ≡ natAbs n ⌝ }
 {
@@ -98,12 +74,12 @@ fn magnitude64(n: i64) -> u64
     }
 }
 
-// The f32 nearest to n.
+// The f32 nearest to n. The high half, rounded down, and the low half, which is never negative, are
+// floats exactly, and so is the high half times 2^16: only the sum rounds.
 pub fn float_of_int(n: i32) -> f32
     ensures { λ r. ⌜ r ≡ ofInt binary32 n ⌝ }
 {
-    let x = nearest_float(magnitude32(n));
-    if n >= 0 { x } else { -x }
+    ((n >> 16) as f32) * 65536.0 + ((n & 0xffff) as f32)
 }
 
 // The f64 of n, which holds every i32.
@@ -113,20 +89,19 @@ pub fn double_of_int(n: i32) -> f64
     n as f64
 }
 
-// The f64 nearest to n.
+// The f64 nearest to n, by halves of 32 digits.
 pub fn double_of_long(n: i64) -> f64
     ensures { λ r. ⌜ r ≡ ofInt binary64 n ⌝ }
 {
-    let x = nearest_double(magnitude64(n));
-    if n >= 0 { x } else { -x }
+    ((n >> 32) as f64) * 4294967296.0 + ((n & 0xffff_ffff) as f64)
 }
 
 // The pattern of the f32 nearest to n, rounded once.
 pub fn float_bits_of_long(n: i64) -> u32
     ensures { λ r. ⌜ r ≡ ofInteger 24 127 n ⌝ }
 {
-    let m = nearest_float_bits(magnitude64(n));
-    if n >= 0 { m } else { 0x8000_0000 + m }
+    let s = (to_twos64(n) / 0x8000_0000_0000_0000) as u32;
+    s * 0x8000_0000 + nearest_float_bits(magnitude64(n))
 }
 
 // The integer of 32 bits, and the bits of an integer.

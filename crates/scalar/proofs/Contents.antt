@@ -1,7 +1,7 @@
 -- From content to content: what a scalar that was read from bits, converted and written again gives. Assumes nothing.
 use mathlib.Core.Path.{_≡_, refl, sym, ap, _∙_, subst}
 use Prim.Native.Nat.{ℕ, suc, _+_, _-_, _*_, _%_, _^_, _≤_, _<_}
-use native.Mathlib.Nat.{le-refl, le-of-lt, le-trans}
+use native.Mathlib.Nat.{mod-eq-of-lt}
 use native.Mathlib.Omega.{arith}
 use mathlib.Core.Bool.{Bool, true, false, not, cond}
 use lib.IntN.{ℤ, pos, negsuc}
@@ -9,11 +9,11 @@ use lib.Dec.{T, ltb, leb, lit≤, ltb→lt, nltb→le}
 use lib.Ieee as Ieee
 use lib.Ieee.{Format, binary32, binary64, prec, emax, top, toBits, ofBits, nanBits, isNan}
 use lib.Ieee.Bits.{toBits-ofBits, nanBits-is, nanBits-above}
-use borrow.Author.Tests.{lt-ltb}
+use borrow.Author.Tests.{lt-ltb, ne-eqb}
 use Rattle.rounding.specs.Rounding.{low, infinity, signBit, quietNan, signed, magnitude, roundUnits, unitsOf, ofInteger, convert, convertMagnitude, ofTwos, toTwos}
 use Rattle.base.specs.Base.{if_then_else_}
 use Rattle.scalar.specs.Conversion.{longOfInt}
-use Rattle.scalar.specs.Scalars.{floatOf, doubleOf, contentOf, castContent, longCast, floatCast, doubleCast}
+use Rattle.scalar.specs.Scalars.{floatOf, doubleOf, ofContent, contentOf, castContent, longCast, floatCast, doubleCast}
 use Rattle.scalar.specs.declared.Scalar.the-variants.{Int, Long, Float, FloatNan, Double, DoubleNan}
 use Rattle.rounding.proofs.Width.{single, double, integer-lt, convert-lt}
 
@@ -35,6 +35,33 @@ double-content b B = go (nanBits binary64 b) (kept binary64 b B)
     go : (t : Bool) → (t ≡ false → toBits binary64 (ofBits binary64 b) ≡ b) → contentOf (cond t (DoubleNan b) (Double (ofBits binary64 b))) ≡ b
     go true h = refl
     go false h = h refl
+
+-- ---- a number by its kind and content
+pub of-kind-2 : (k b : ℕ) → k ≡ 0x02 → ofContent k b ≡ Int (ofTwos 32 (b % 2 ^ 32))
+unfolding ofContent
+of-kind-2 k b e = ap (λ (x : ℕ). ofContent x b) e
+
+pub of-kind-3 : (k b : ℕ) → k ≡ 0x03 → ofContent k b ≡ Long (ofTwos 64 b)
+unfolding ofContent
+of-kind-3 k b e = ap (λ (x : ℕ). ofContent x b) e
+
+pub of-kind-4 : (k b : ℕ) → k ≡ 0x04 → ofContent k b ≡ floatOf (b % 2 ^ 32)
+unfolding ofContent
+of-kind-4 k b e = ap (λ (x : ℕ). ofContent x b) e
+
+pub of-kind-5 : (k b : ℕ) → (k ≡ 0x02 → ⊥) → (k ≡ 0x03 → ⊥) → (k ≡ 0x04 → ⊥) → ofContent k b ≡ doubleOf b
+unfolding ofContent
+of-kind-5 k b f g h = rw (ne-eqb k 0x02 f, ne-eqb k 0x03 g, ne-eqb k 0x04 h) refl
+
+pub int-content : (b : ℕ) → b < 2 ^ 32 → ofContent 0x02 b ≡ Int (ofTwos 32 b)
+int-content b h = of-kind-2 0x02 b refl ∙ ap (λ (x : ℕ). Int (ofTwos 32 x)) (mod-eq-of-lt h)
+
+pub float-read : (b : ℕ) → b < 2 ^ 32 → ofContent 0x04 b ≡ floatOf b
+float-read b h = of-kind-4 0x04 b refl ∙ ap floatOf (mod-eq-of-lt h)
+
+pub double-read : (b : ℕ) → ofContent 0x05 b ≡ doubleOf b
+unfolding ofContent
+double-read b = refl
 
 -- ---- all bits are kept
 pub float-stays : (b : ℕ) → b < 2 ^ 32 → castContent (floatCast (floatOf b)) ≡ b

@@ -1,6 +1,6 @@
 -- What a scalar's kind and content are in a frame, and what each conversion gives. Each case of `Scalar` is a kind of document 01.
 -- A Float or a Double that is a NaN and was read from a frame is carried by its bits, since a float of the language has no payload.
-use Prim.Native.Nat.{ℕ}
+use Prim.Native.Nat.{ℕ, _%_, _^_}
 use mathlib.Core.Bool.{Bool, cond}
 use mathlib.Core.Option.{Option, none, some}
 use lib.IntN.{ℤ}
@@ -25,6 +25,14 @@ floatOf b = cond (nanBits binary32 b) (FloatNan b) (Float (ofBits binary32 b))
 
 abbrev pub doubleOf : ℕ → Scalar
 doubleOf b = cond (nanBits binary64 b) (DoubleNan b) (Double (ofBits binary64 b))
+
+-- ---- a number by its kind's byte and its node's content: an Int, a Long, a Float, or else a Double
+unfoldable pub ofContent : ℕ → ℕ → Scalar
+ofContent k b =
+    if eqb k 0x02 then Int (ofTwos 32 (b % 2 ^ 32)) else
+    if eqb k 0x03 then Long (ofTwos 64 b) else
+    if eqb k 0x04 then floatOf (b % 2 ^ 32) else
+    doubleOf b
 
 -- ---- the kind's byte in a node
 abbrev pub kindOf : Scalar → ℕ

@@ -1,36 +1,30 @@
--- `scalar::int_to_float` meets its contract: what the three calls ensure, and the law of the conversion from content to content.
+-- `scalar::int_to_float` meets its contract: what the call ensures, and the law of the conversion from content to content.
 use mathlib.Core.Path.{_≡_, refl, sym, ap, _∙_, subst}
-use Prim.Native.Nat.{ℕ, _+_, _-_, _%_, _^_, _≤_, _<_}
+use Prim.Native.Nat.{ℕ, _^_, _<_}
 use Rattle.scalar.specs.Conversion.{floatOfInt}
 use Rattle.scalar.specs.Scalars.{castContent, floatCast}
-use Rattle.scalar.proofs.Contents.{integer-float}
+use Rattle.scalar.specs.declared.Scalar.{Scalar}
+use Rattle.scalar.proofs.Contents.{int-content, integer-float}
 use Rattle.scalar.proofs.Bounds.{floatOfInt-<}
 use borrow.Author.Needs.{needs}
 use Rattle.scalar.proofs.int_to_float.Statement.{statement}
 use Rattle.scalar.proofs.int_to_float.Tie as tie
 
-is : (c : tie.After-content) → c .content .result ≡ floatOfInt (c .before .before .before .args .b)
+is : (c : tie.After-float-content) → c .float-content .result ≡ floatOfInt (c .before .args .b)
 unfolding floatOfInt
 is c =
-    let s = c .before .before .before in
+    let s = c .before in
     let b = s .args .b in
-    c .content .ensures ∙ ap castContent (c .before .to-float .ensures ∙ ap floatCast (c .before .before .of-int .ensures)) ∙ integer-float _
+    c .float-content .ensures ∙ ap (λ (x : Scalar). castContent (floatCast x)) (int-content b (s .fits .b .fits)) ∙ integer-float _
 
-of-int-requires : tie.Need-of-int-requires
-of-int-requires c κs = search needs
-
-to-float-requires : tie.Need-to-float-requires
-to-float-requires c κs = search needs
-
-content-requires : tie.Need-content-requires
-content-requires c κs = search needs
+float-content-requires : tie.Need-float-content-requires
+float-content-requires c κs = search needs
 
 cast-result : tie.Need-cast-result
-cast-result c = record { fits = subst (λ (x : ℕ). x < 2 ^ 32) (sym (is c)) (floatOfInt-< (c .before .before .before .args .b)) }
+cast-result c = record { fits = subst (λ (x : ℕ). x < 2 ^ 32) (sym (is c)) (floatOfInt-< (c .before .args .b)) }
 
 returns : tie.Need-returns
 returns c = is c
 
 pub int-to-float-spec : {M : Type 1} → statement M
-int-to-float-spec =
-    tie.close (tie.spec of-int-requires to-float-requires content-requires cast-result returns)
+int-to-float-spec = tie.close (tie.spec float-content-requires cast-result returns)
