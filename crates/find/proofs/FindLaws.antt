@@ -1,6 +1,6 @@
 -- The search for the last value under a name: what holds of it before the first entry, after one more, and after the last.
 -- Assumes nothing.
-use Prim.Native.Nat.{ℕ, _+_, _-_, _≤_, _<_}
+use Prim.Native.Nat.{ℕ, zero, suc, _+_, _-_, _≤_, _<_}
 use mathlib.Core.Path.{_≡_, refl, sym, ap, _∙_}
 use mathlib.Core.Logic.{_⊎_, inl, inr}
 use mathlib.Core.List.{List, [], _∷_}
@@ -25,7 +25,7 @@ use Rattle.value.proofs.ReaderLaws.{mapRead, bind-some, map-map, reads-eq, read
 use Rattle.value.proofs.NodeLaws.{value-node}
 use Rattle.value.proofs.SkipLaws.{known-depth, known-byte, entry-counted, entry-node}
 use Rattle.find.specs.Find.{Keyed, Located, entryUnder}
-use Rattle.find.specs.Latest.{hit, later}
+use Rattle.find.specs.Latest.{hit, later, foundAt}
 use Rattle.find.specs.declared.Found.{Found}
 use Rattle.find.specs.declared.Found.the-variants.{At, Nothing}
 
@@ -166,3 +166,14 @@ located-nothing (some w) d v l = absurd l
 pub under-some : (n : Text) (x : Read Value) (a : Value) (r : List ℕ) → x ≡ some (a, r) → entryUnder n x ≡ lookup n (Tree.entries a)
 unfolding entryUnder
 under-some n x a r e = ap (entryUnder n) e
+
+-- ---- a position as a find
+
+pub found-zero : (p : ℕ) → p ≡ 0 → Nothing ≡ foundAt p
+unfolding foundAt
+found-zero p e = rw e refl
+
+pub found-some : (p : ℕ) → (p ≡ 0 → ⊥) → At p ≡ foundAt p
+unfolding foundAt
+found-some zero h = absurd (h refl)
+found-some (suc p) h = refl

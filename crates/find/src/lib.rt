@@ -43,24 +43,22 @@ pub enum Found {
     Nothing,
 }
 
-// The value at a position, if its name is the one looked for.
-fn hit(named: bool, at: usize) -> Found
-    ensures { λ r. ⌜ r ≡ Latest.hit named at ⌝ }
+// A position as a find: 0, where no value of a Record or a Map starts, stands for none.
+fn find_at(at: usize) -> Found
+    ensures { λ r. ⌜ r ≡ Latest.foundAt at ⌝ }
 {
-    if named {
-        return Found::At(at);
+    if at == 0 {
+        return Found::Nothing;
     }
-    Found::Nothing
+    Found::At(at)
 }
 
-// The later of two finds counts.
-fn later(before: Found, after: Found) -> Found
-    ensures { λ r. ⌜ r ≡ Latest.later before after ⌝ }
+// The position found so far, after one entry more: a later entry under the name counts.
+fn later(before: usize, named: bool, at: usize) -> usize
+    requires { ⌜ 1 ≤ at ⌝ }
+    ensures { λ r. ⌜ Latest.foundAt r ≡ Latest.later (Latest.foundAt before) (Latest.hit named at) ⌝ }
 {
-    match after {
-        Found::At(p) => Found::At(p),
-        Found::Nothing => before,
-    }
+    if named { at } else { before }
 }
 
 // The last value under a name in a Record or a Map, whose contents are alike: a count and as many entries.
@@ -70,13 +68,13 @@ pub fn find_last(v: &[u8], name: &[u8], depth: usize) -> Found
 {
     let mut left = number::read2(v, 1);
     let mut at: usize = 3;
-    let mut found = Found::Nothing;
+    let mut last: usize = 0;
     while 0 < left {
         let t = text::content(&v[at..]);
         at += 2 + t.len();
-        found = later(found, hit(text::same(t, name), at));
+        last = later(last, text::same(t, name), at);
         at += value::value_len(&v[at..], depth - 1);
         left -= 1;
     }
-    found
+    find_at(last)
 }

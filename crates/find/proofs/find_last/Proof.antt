@@ -1,51 +1,95 @@
--- `find::find_last` meets its contract. The loop's invariant: the value looked for is in the entries to come, or else it is the one
--- found so far. The measure is the number of entries to come. Assumes nothing.
 use borrow.Author.Needs.{needs}
-use mathlib.Core.Path.{refl}
+use mathlib.Core.Path.{refl, _∙_}
 use native.Mathlib.Omega.{arith}
 use Rattle.value.proofs.ReaderLaws.{suffix}
 use Rattle.value.proofs.SkipLaws.{known-depth}
+use Rattle.find.specs.Latest.{foundAt}
 use Rattle.find.proofs.FindLaws.{Finding, keyed-length, finding-start, finding-name, finding-inside, finding-value, finding-step, finding-end}
 use Rattle.find.proofs.find_last.Statement.{statement}
 use Rattle.find.proofs.find_last.Tie as tie
+use Rattle.find.proofs.find_last.Reads as reads
+use Rattle.find.proofs.find_last.Lts as lts
+use Rattle.find.proofs.find_at.Reads as find-at-reads
+use Rattle.find.proofs.later.Reads as later-reads
+use Rattle.number.proofs.read2.Reads as read2-reads
+use Rattle.text.proofs.content.Reads as content-reads
+use Rattle.text.proofs.same.Reads as same-reads
+use Rattle.value.proofs.value_len.Reads as value-len-reads
+
+-- `find::find_last` meets its contract. The loop's invariant: the value looked for is in the entries to come, or else it is the one
+-- found so far. The measure is the number of entries to come.
 
 abbrev Inv-loop : tie.InvT-loop
-Inv-loop v name depth left₀ at₀ found₀ left at found = Finding v name depth left at found
+Inv-loop v name depth left₀ at₀ last₀ left at last = Finding v name depth left at (foundAt last)
 
 abbrev μ-loop : tie.MeasureT-loop
-μ-loop v name depth left₀ at₀ found₀ left at found = left
+μ-loop v name depth left₀ at₀ last₀ left at last = left
 
 read2-requires : tie.Need-read2-requires Inv-loop μ-loop
 read2-requires c κs = keyed-length _ _ (c .before .before .pre .0) (c .before .before .pre .1)
 
 loop-holds : tie.Need-loop-holds Inv-loop μ-loop
+unfolding foundAt
 loop-holds c = finding-start _ _ _ _ (c .before .before .before .pre .0) (c .before .before .before .pre .1) (c .read2 .ensures)
+
+sub-content : tie.Need-sub-content Inv-loop μ-loop
+sub-content c = search needs
+
+part-content-start : tie.Need-part-content-start Inv-loop μ-loop
+part-content-start c = search needs
+
+part-content-end : tie.Need-part-content-end Inv-loop μ-loop
+part-content-end c = search needs
 
 content-requires : tie.Need-content-requires Inv-loop μ-loop
 content-requires c κs = rw suffix (finding-name _ _ _ _ _ _ (c .before .before .loop .inv) (c .before .before .before .before .before .before .pre .0) (c .before .loop-test .taken))
 
+add-at : tie.Need-add-at Inv-loop μ-loop
+add-at c = search needs
+
+add-at-2 : tie.Need-add-at-2 Inv-loop μ-loop
+add-at-2 c = search needs
+
+same-requires : tie.Need-same-requires Inv-loop μ-loop
+same-requires c κs = search needs
+
+later-requires : tie.Need-later-requires Inv-loop μ-loop
+later-requires c κs = omega arith
+
 sub-value-len : tie.Need-sub-value-len Inv-loop μ-loop
-sub-value-len c = finding-inside _ _ _ _ _ _ (c .before .before .before .before .before .before .loop .inv) (c .before .before .before .before .before .before .before .before .before .before .pre .0) (c .before .before .before .before .before .loop-test .taken) _ (rw suffix at (c .before .before .before .content .ensures .0)) (rw suffix at (c .before .before .before .content .ensures .1 .0))
+sub-value-len c = finding-inside _ _ _ _ _ _ (c .before .before .before .before .before .loop .inv) (c .before .before .before .before .before .before .before .before .before .pre .0) (c .before .before .before .before .loop-test .taken) _ (rw suffix at (c .before .before .content .ensures .0)) (rw suffix at (c .before .before .content .ensures .1 .0))
 
 part-value-len-start : tie.Need-part-value-len-start Inv-loop μ-loop
-part-value-len-start c = finding-inside _ _ _ _ _ _ (c .before .before .before .before .before .before .loop .inv) (c .before .before .before .before .before .before .before .before .before .before .pre .0) (c .before .before .before .before .before .loop-test .taken) _ (rw suffix at (c .before .before .before .content .ensures .0)) (rw suffix at (c .before .before .before .content .ensures .1 .0))
+part-value-len-start c = finding-inside _ _ _ _ _ _ (c .before .before .before .before .before .loop .inv) (c .before .before .before .before .before .before .before .before .before .pre .0) (c .before .before .before .before .loop-test .taken) _ (rw suffix at (c .before .before .content .ensures .0)) (rw suffix at (c .before .before .content .ensures .1 .0))
+
+part-value-len-end : tie.Need-part-value-len-end Inv-loop μ-loop
+part-value-len-end c = search needs
 
 sub-value-len-2 : tie.Need-sub-value-len-2 Inv-loop μ-loop
-sub-value-len-2 c = let h = known-depth _ _ (c .before .before .before .before .before .before .before .before .before .before .before .pre .0) in omega arith
+sub-value-len-2 c = let h = known-depth _ _ (c .before .before .before .before .before .before .before .before .before .before .pre .0) in omega arith
 
 value-len-requires : tie.Need-value-len-requires Inv-loop μ-loop
-value-len-requires c κs = rw suffix (finding-value _ _ _ _ _ _ (c .before .before .before .before .before .before .before .loop .inv) (c .before .before .before .before .before .before .before .before .before .before .before .pre .0) (c .before .before .before .before .before .before .loop-test .taken) _ (rw suffix at (c .before .before .before .before .content .ensures .0)) (rw suffix at (c .before .before .before .before .content .ensures .1 .0)))
+value-len-requires c κs = rw suffix (finding-value _ _ _ _ _ _ (c .before .before .before .before .before .before .loop .inv) (c .before .before .before .before .before .before .before .before .before .before .pre .0) (c .before .before .before .before .before .loop-test .taken) _ (rw suffix at (c .before .before .before .content .ensures .0)) (rw suffix at (c .before .before .before .content .ensures .1 .0)))
 
 add-at-3 : tie.Need-add-at-3 Inv-loop μ-loop
 add-at-3 c =
-    let w = finding-step _ _ _ _ _ _ (c .before .before .before .before .before .before .before .before .loop .inv) (c .before .before .before .before .before .before .before .before .before .before .before .before .pre .0) (c .before .before .before .before .before .before .before .loop-test .taken) _ (rw suffix at (c .before .before .before .before .before .content .ensures .0)) (rw suffix at (c .before .before .before .before .before .content .ensures .1 .0)) _ _ refl (rw suffix at (c .value-len .ensures)) in
+    let w = finding-step _ _ _ _ _ _ (c .before .before .before .before .before .before .before .loop .inv) (c .before .before .before .before .before .before .before .before .before .before .before .pre .0) (c .before .before .before .before .before .before .loop-test .taken) _ (rw suffix at (c .before .before .before .before .content .ensures .0)) (rw suffix at (c .before .before .before .before .content .ensures .1 .0)) _ _ refl (rw suffix at (c .value-len .ensures)) in
     omega (arith, w .inside)
 
+sub-left : tie.Need-sub-left Inv-loop μ-loop
+sub-left c = search needs
+
+loop-less : tie.Need-loop-less Inv-loop μ-loop
+loop-less c = search needs
+
 loop-again : tie.Need-loop-again Inv-loop μ-loop
-loop-again c = rw (c .before .before .later .ensures, c .before .before .before .hit .ensures) (finding-step _ _ _ _ _ _ (c .before .before .before .before .before .before .before .before .loop .inv) (c .before .before .before .before .before .before .before .before .before .before .before .before .pre .0) (c .before .before .before .before .before .before .before .loop-test .taken) _ (rw suffix at (c .before .before .before .before .before .content .ensures .0)) (rw suffix at (c .before .before .before .before .before .content .ensures .1 .0)) _ _ (c .before .before .before .before .same .ensures) (rw suffix at (c .value-len .ensures)))
+loop-again c = rw (c .before .before .later .ensures) (finding-step _ _ _ _ _ _ (c .before .before .before .before .before .before .before .loop .inv) (c .before .before .before .before .before .before .before .before .before .before .before .pre .0) (c .before .before .before .before .before .before .loop-test .taken) _ (rw suffix at (c .before .before .before .before .content .ensures .0)) (rw suffix at (c .before .before .before .before .content .ensures .1 .0)) _ _ (c .before .before .before .same .ensures) (rw suffix at (c .value-len .ensures)))
+
+find-at-requires : tie.Need-find-at-requires Inv-loop μ-loop
+find-at-requires c κs = search needs
 
 returns : tie.Need-returns Inv-loop μ-loop
-returns c = finding-end _ _ _ _ _ _ (c .before .loop .inv) (c .loop-test .left)
+returns c = rw (c .find-at .ensures) (finding-end _ _ _ _ _ _ (c .before .before .loop .inv) (c .before .loop-test .left))
 
 pub find-last-spec : {M : Type 1} → statement M
 find-last-spec =
@@ -55,22 +99,22 @@ find-last-spec =
     μ-loop
     read2-requires
     loop-holds
-    (λ c. search needs)
-    (λ c. search needs)
-    (λ c. search needs)
+    sub-content
+    part-content-start
+    part-content-end
     content-requires
-    (λ c. search needs)
-    (λ c. search needs)
-    (λ c κs. search needs)
-    (λ c κs. search needs)
-    (λ c κs. search needs)
+    add-at
+    add-at-2
+    same-requires
+    later-requires
     sub-value-len
     part-value-len-start
-    (λ c. search needs)
+    part-value-len-end
     sub-value-len-2
     value-len-requires
     add-at-3
-    (λ c. search needs)
-    (λ c. search needs)
+    sub-left
+    loop-less
     loop-again
+    find-at-requires
     returns)
