@@ -36,7 +36,7 @@ pub fn add(t: &mut [u16; 2560], s: &[u8], n: usize, place: usize)
 }
 
 // The place of the last entry whose text is the name; 0 where there is none.
-pub fn find(t: &[u16; 2560], s: &[u8], name: &[u8]) -> usize
+pub fn find(t: &[u16], s: &[u8], name: &[u8]) -> usize
     requires { ⌜ ((ps : List ℕ) × Indexed (now t) (now s) ps) ⌝ }
     ensures { λ r. ⌜ ((ps : List ℕ) → Indexed (now (t .entry)) (now (s .entry)) ps → r ≡ lastPlace (now (s .entry)) ps (now (name .entry))) ⌝ }
 {
