@@ -2,12 +2,13 @@
 // checked again.
 ghost use mathlib.Core.Path.{_≡_};
 ghost use Prim.Native.Nat.{_-_, _≤_};
-ghost use lib.ListN.{length, drop};
+ghost use lib.ListN.{length, drop, replicate};
 ghost use Rattle.text.specs.Measured.{Reads};
 ghost use Rattle.frame.specs.ValueFrame.{readEntry, readValue};
 ghost use Rattle.frame.specs.Checks.{Spans};
 ghost use Rattle.find.specs.Find.{peelRead, Keyed, Located, entryUnder};
 ghost use Rattle.find.specs.Latest;
+ghost use Rattle.find.specs.Marks.{Marked};
 
 // Where a value without its one Union starts, and how deep it may be.
 pub struct Peeled {
@@ -77,4 +78,45 @@ pub fn find_last(v: &[u8], name: &[u8], depth: usize) -> Found
         left -= 1;
     }
     find_at(last)
+<<<<<<< HEAD
+=======
+}
+
+// Notes where the names of a Record's or Map's entries stand; false where there are too many for the table.
+pub fn mark(v: &[u8], depth: usize, t: &mut [u16; 2560]) -> bool
+    requires { ⌜ Reads (readValue depth (now v)) × Keyed (now v) × (now t ≡ replicate 2560 0) ⌝ }
+    ensures { λ r. ⌜ Marked r (now (t .exit)) depth (now (v .entry)) ⌝ }
+{
+    let count = number::read2(v, 1) as usize;
+    if 1024 < count {
+        return false;
+    }
+    let mut n: usize = 0;
+    let mut at: usize = 3;
+    while n < count {
+        if 65535 < at {
+            return false;
+        }
+        index::add(t, v, n, at);
+        at += 2 + text::content(&v[at..]).len();
+        at += value::value_len(&v[at..], depth - 1);
+        n += 1;
+    }
+    true
+}
+
+// The last value under a name, by the marks where there are any.
+pub fn find_in(v: &[u8], name: &[u8], depth: usize, t: &[u16], marked: bool) -> Found
+    requires { ⌜ Reads (readValue depth (now v)) × Keyed (now v) × Marked marked (now t) depth (now v) ⌝ }
+    ensures { λ r. ⌜ Located (entryUnder (now (name .entry)) (readValue depth (now (v .entry)))) (depth - 1) (now (v .entry)) r ⌝ }
+{
+    if !marked {
+        return find_last(v, name, depth);
+    }
+    let place = index::find(t, v, name);
+    if place == 0 {
+        return Found::Nothing;
+    }
+    Found::At(place + 2 + name.len())
+>>>>>>> 84a61986ba4234791c4ddb86286c4cf8172c0029
 }
