@@ -1,28 +1,28 @@
 -- What the answers for a union and a record say, and the turns of the loops over variants and names.
-use Prim.Native.Nat.{ℕ, zero, suc, _+_, _-_, _≤_, _<_}
-use mathlib.Core.Path.{_≡_, refl, sym, ap, _∙_, subst}
-use mathlib.Core.List.{List, [], _∷_}
-use mathlib.Core.Option.{Option, none, some}
+use Prim.Native.Nat.{ℕ, zero, _+_, _-_, _≤_, _<_}
+use mathlib.Core.Path.{_≡_, sym, ap, _∙_}
+use mathlib.Core.List.{List}
+use mathlib.Core.Option.{some}
 use mathlib.Core.Bool.{Bool, true, false, _&&_, _||_, not}
 use native.Mathlib.Omega.{arith}
 use native.Mathlib.Nat.{add-zero}
-use lib.Dec.{leb, ltb, eqb}
-use lib.ListN.{length, take, drop, getD, length-drop}
-use lib.Seq.{drop-drop, getD-drop}
+use lib.Dec.{ltb, eqb}
+use lib.ListN.{length, drop, getD, length-drop}
+use lib.Seq.{getD-drop}
 use Rattle.number.specs.Number.{numberAt}
 use Rattle.text.specs.Text.{Text, same}
 use Rattle.text.specs.Read.{Read, readNumber, readCounted}
-use Rattle.text.specs.Measured.{Measured, Reads}
+use Rattle.text.specs.Measured.{Reads}
 use Rattle.frame.specs.Tree.{Schema, schemaKind}
-use Rattle.frame.specs.Readers.{readMany, readList}
+use Rattle.frame.specs.Readers.{readList}
 use Rattle.frame.specs.SchemaFrame.{fieldsOf, variantsOf, readField, readLead, readSchemaContent, readSchema}
-use Rattle.frame.specs.Sound.{schemaSound, fieldsSound, variantsSound, kindsSound, positionsSound, countVariants, hasField}
+use Rattle.frame.specs.Sound.{schemaSound, variantsSound, kindsSound, positionsSound, countVariants, hasField}
 use Rattle.frame.specs.Checks.{Checks, Spans}
-use Rattle.frame.specs.declared.Checked.the-variants.{Of, Broken}
+use Rattle.frame.specs.declared.Checked.the-variants.{Of}
 use Rattle.schema.specs.Parts.{Field, eachSound, namesDiffer, noUnions}
-use Rattle.schema.proofs.Reading.{Going, going-step, Held, held, checks-of, onto, bind-some, and-assoc, and-true, read-what, many-length, list-got, measured-checks, not-both}
-use Rattle.schema.proofs.Nodes.{union-got, record-content, checks-onto, schema-kind, schema-there, variants-count}
-use Rattle.schema.proofs.Seeking.{Left, First, left-first, left-step, left-behind, left-reads, reads-some, field-name, list-long, fields-sound}
+use Rattle.schema.proofs.Reading.{Going, going-step, Held, held, checks-of, bind-some, and-assoc, read-what, many-length, list-got}
+use Rattle.schema.proofs.Nodes.{union-got, record-content, schema-kind, schema-there, variants-count}
+use Rattle.schema.proofs.Seeking.{Left, left-first, left-step, reads-some, field-name, list-long, fields-sound}
 
 pub checks-reads : {A : Type 0} (sound : A → Bool) (x : Read A) (s : List ℕ) (n : ℕ) (b : Bool) → Checks sound x s (Of n b) → Reads x
 checks-reads sound x s n b w = let q = held sound x s n b w in reads-some x (q .what) (drop n s) (q .read)
@@ -108,14 +108,3 @@ module _ (x : Read (List Field)) (node : List ℕ → Read Schema) (name : Text)
       let q = left-first x (readField node) (seeks name) (seeks name) s at left w h in
       left-step x (readField node) (seeks name) (seeks name) s at left w (seeks name) h m k
       (ap (λ y. same y name || seeks name (q .others)) (sym (name-is node (drop at s) (q .item) (q .behind) (q .first) other v g)) ∙ ap (λ y. y || seeks name (q .others)) t)
-
-pub differ-step : (node : List ℕ → Read Schema) (s : List ℕ) (at left : ℕ) (ok : Bool) (w : Left (readList (readField node) s) (readField node) namesDiffer (λ fs. ok && namesDiffer fs) s at left) (h : 0 < left)
-    → (other : Text) (v : List ℕ) → readCounted (drop at s) ≡ some (other, v) → (m : ℕ) → Spans (readField node (drop at s)) (drop at s) m → (has ok' : Bool)
-    → ((fs : List Field) (u : List ℕ) → readMany (readField node) (left - 1) (drop (at + m) s) ≡ some (fs, u) → has ≡ seeks other fs) → ok' ≡ ok && not has
-    → Left (readList (readField node) s) (readField node) namesDiffer (λ fs. ok' && namesDiffer fs) s (at + m) (left - 1)
-unfolding namesDiffer
-differ-step node s at left ok w h other v g m k has ok' f e =
-    let q = left-first _ (readField node) namesDiffer (λ fs. ok && namesDiffer fs) s at left w h in
-    let seen : has ≡ seeks (q .item .0) (q .others) = f (q .others) (w .after) (left-behind _ (readField node) namesDiffer (λ fs. ok && namesDiffer fs) s at left w h m k) ∙ ap (λ y. seeks y (q .others)) (name-is node (drop at s) (q .item) (q .behind) (q .first) other v g) in
-    left-step _ (readField node) namesDiffer (λ fs. ok && namesDiffer fs) s at left w (λ fs. ok' && namesDiffer fs) h m k
-    (ap (λ y. ok && (not y && namesDiffer (q .others))) (sym seen) ∙ sym (and-assoc ok (not has) (namesDiffer (q .others))) ∙ ap (λ y. y && namesDiffer (q .others)) (sym e))

@@ -1,34 +1,33 @@
 -- The kinds of a value that is known to be there.
-use Prim.Native.Nat.{ℕ, zero, suc, _+_, _-_, _≤_, _<_}
+use Prim.Native.Nat.{ℕ, _+_, _-_, _≤_, _<_}
 use mathlib.Core.Path.{_≡_, refl, sym, ap, _∙_, subst}
-use mathlib.Core.List.{List, [], _∷_}
-use mathlib.Core.Option.{Option, none, some}
+use mathlib.Core.List.{List}
+use mathlib.Core.Option.{none, some}
 use mathlib.Core.Bool.{Bool, true, false, _&&_, _||_, not}
 use native.Mathlib.Omega.{arith}
-use lib.Dec.{T, leb, ltb, eqb, leb→le, nleb→lt, eqb→eq}
-use lib.ListN.{length, take, drop, getD, length-drop, List·getD-eq-default}
+use lib.Dec.{T, leb, ltb, eqb, nleb→lt, eqb→eq}
+use lib.ListN.{length, drop, getD, length-drop, List·getD-eq-default}
 use lib.Seq.{drop-drop}
-use borrow.Author.Tests.{le-leb, lt-leb, le-ltb, lt-ltb, ne-eqb, leb-true, leb-false}
-use Rattle.base.specs.Base.{if_then_else_}
+use borrow.Author.Tests.{lt-leb, le-ltb, lt-ltb, ne-eqb, leb-true, leb-false}
 use Rattle.base.proofs.AllBelow.{allBelow, allBelow-lookup}
-use Rattle.number.specs.Number.{bigEndian, numberAt}
+use Rattle.number.specs.Number.{numberAt}
 use Rattle.text.specs.Text.{Text}
 use Rattle.text.specs.Read.{Read, _>>=_, readBytes, readNumber, readCounted, readText}
-use Rattle.text.specs.Measured.{Measured, Reads}
+use Rattle.text.specs.Measured.{Reads}
 use Rattle.scalar.specs.Conversion.{inInt, finiteDouble}
 use Rattle.frame.specs.Kind
-use Rattle.frame.specs.Tree.{Value, Values, Entries}
-use Rattle.frame.specs.Readers.{readFlag, readMany, readList, readOption}
+use Rattle.frame.specs.Tree.{Value}
+use Rattle.frame.specs.Readers.{readFlag, readList, readOption}
 use Rattle.frame.specs.ValueFrame.{Content, wide, flag, counted, text, plain, array, map, union, entries, symbol, unknown, table, content, itemsOf, entriesOf, readEntry, readContent, readValue}
 use Rattle.frame.specs.Sound.{keysRise, defaultScalar, defaultKinds, defaultItems, defaultEntries, defaultAllowed}
 use Rattle.frame.specs.Checks.{Checks, Spans}
-use Rattle.frame.specs.declared.Checked.the-variants.{Of, Broken}
+use Rattle.frame.specs.declared.Checked.the-variants.{Of}
 use Rattle.value.proofs.ReaderLaws.{not-reads, reads-eq, reads-first, reads-number}
 use Rattle.value.proofs.NodeLaws.{value-bottom, value-empty, value-node}
-use Rattle.schema.proofs.Reading.{Held, held, checks-of, number-got, onto, and-assoc, read-what, read-rest, not-both, bind-some}
+use Rattle.schema.proofs.Reading.{held, checks-of, number-got, and-assoc, read-what, read-rest, not-both}
 use native.Mathlib.Nat.{add-assoc}
 use Rattle.schema.proofs.Leaves.{option-one-some}
-use Rattle.schema.proofs.Seeking.{Left, First, left-first, left-step, left-reads, reads-some, bind-inv, text-counted, spans-inside}
+use Rattle.schema.proofs.Seeking.{Left, First, left-first, left-step, reads-some, bind-inv, text-counted}
 
 or-false : (a : Bool) → a || false ≡ a
 or-false true = refl

@@ -2,10 +2,9 @@
 use Prim.Native.Nat.{ℕ, zero, suc, _+_, _-_, _*_, _%_, _≤_, _<_}
 use mathlib.Core.Path.{_≡_, refl, sym, ap, _∙_, subst}
 use mathlib.Core.List.{List, [], _∷_, _++_, append-assoc}
-use mathlib.Core.Option.{Option, none, some}
+use mathlib.Core.Option.{none, some}
 use mathlib.Core.Bool.{Bool, true, false, _&&_, _||_, not}
 use native.Mathlib.Omega.{arith}
-use native.Mathlib.Nat.{mod-lt}
 use lib.Dec.{T, eqb}
 use lib.ListN.{length, getD, set, drop}
 use lib.Seq.{drop-drop, drop-cons, getD-set-same, getD-set-other}
@@ -21,7 +20,7 @@ use Rattle.frame.specs.Sound.{hasField}
 use Rattle.frame.specs.Checks.{Spans}
 use Rattle.schema.specs.Parts.{Field, namesDiffer}
 use Rattle.schema.specs.Slot.{hashFrom, slots, slotOf}
-use Rattle.schema.proofs.Reading.{read-what, read-rest, list-got, many-suc, bind-some, onto}
+use Rattle.schema.proofs.Reading.{read-what, read-rest, bind-some}
 use Rattle.schema.proofs.Seeking.{Left, First, many-first, left-start, left-first, left-step, left-end, reads-some, list-long}
 use Rattle.schema.proofs.Checking.{seeks, name-is}
 

@@ -1,34 +1,32 @@
 -- Schema nodes with children, at each way that their readers go, over any reader of the children.
-use Prim.Native.Nat.{ℕ, zero, suc, _+_, _-_, _≤_, _<_}
-use mathlib.Core.Path.{_≡_, refl, sym, ap, _∙_, subst}
+use Prim.Native.Nat.{ℕ, zero, suc, _+_, _-_}
+use mathlib.Core.Path.{_≡_, refl, sym, ap, _∙_}
 use mathlib.Core.List.{List, [], _∷_}
 use mathlib.Core.Option.{Option, none, some}
-use mathlib.Core.Bool.{Bool, true, false, _&&_, _||_, not}
+use mathlib.Core.Bool.{Bool, true, false, _&&_, _||_}
 use native.Mathlib.Omega.{arith}
 use native.Mathlib.Numerals.{sub-one}
-use lib.Dec.{leb, ltb, eqb}
-use lib.ListN.{length, take, drop, getD, length-drop}
+use lib.Dec.{leb, eqb}
+use lib.ListN.{length, drop, getD, length-drop}
 use lib.Seq.{drop-drop}
 use borrow.Author.Tests.{eqb-true}
 use Rattle.base.specs.Base.{if_then_else_}
-use Rattle.number.specs.Number.{numberAt}
 use Rattle.text.specs.Text.{Text}
 use Rattle.text.specs.Read.{Read, _>>=_, readNumber, readText}
 use Rattle.frame.specs.Kind
-use Rattle.frame.specs.Tree.{Value, Schema, Fields, Variants, UuidForm, schemaKind}
-use Rattle.frame.specs.Readers.{readFlag, readMany, readList, readOption}
+use Rattle.frame.specs.Tree.{Value, Schema, schemaKind}
+use Rattle.frame.specs.Readers.{readList, readOption}
 use Rattle.frame.specs.ValueFrame.{readValue}
-use Rattle.frame.specs.SchemaFrame.{fieldsOf, variantsOf, readField, readLead, readUuidForm, readSchemaContent, readSchema}
-use Rattle.frame.specs.Sound.{schemaSound, fieldsSound, variantsSound, kindsSound, positionsSound, countVariants}
+use Rattle.frame.specs.SchemaFrame.{fieldsOf, variantsOf, readField, readLead, readSchemaContent, readSchema}
+use Rattle.frame.specs.Sound.{schemaSound, kindsSound, positionsSound, countVariants}
 use Rattle.frame.specs.Checks.{Checks}
 use Rattle.frame.specs.declared.Checked.{Checked}
 use Rattle.frame.specs.declared.Checked.the-variants.{Of, Broken}
 use Rattle.text.specs.Measured.{Measured}
-use Rattle.text.specs.declared.Len.{Len}
 use Rattle.text.specs.declared.Len.the-variants as len
-use Rattle.frame.specs.Sound.{defaultAllowed, hasField}
-use Rattle.schema.specs.Parts.{Field, fieldSound, eachSound, namesDiffer, noUnions}
-use Rattle.schema.proofs.Reading.{Held, held, Long, long, checks-of, measured-of, none-measured, none-checks, bind-none, bind-some, onto, read-what, not-both, many-length, list-short, list-got}
+use Rattle.frame.specs.Sound.{defaultAllowed}
+use Rattle.schema.specs.Parts.{fieldSound}
+use Rattle.schema.proofs.Reading.{held, Long, long, checks-of, none-checks, bind-none, bind-some, onto, read-what, not-both}
 
 -- ---- a node and its content
 
@@ -56,22 +54,12 @@ pub node-checks : (d : ℕ) (s : List ℕ) (m : ℕ) (b : Bool) → (d ≡ 0 →
 unfolding Checks
 node-checks d s m b f g w = (omega (arith, w .0, length-drop 1 s), (w .1 .0, (node-open d s f g ∙ w .1 .1 .0 ∙ ap (λ t. some (w .1 .0, t)) (drop-drop m 1 s), w .1 .1 .1)))
 
-pub node-measured : (d : ℕ) (s : List ℕ) (m : ℕ) → (d ≡ 0 → ⊥) → (length s ≡ 0 → ⊥) → Measured (readSchemaContent (readSchema (d - 1)) (getD s 0 0) (drop 1 s)) (drop 1 s) (len.Of m)
-    → Measured (readSchema d s) s (len.Of (1 + m))
-unfolding Measured
-node-measured d s m f g w = (omega (arith, w .0, length-drop 1 s), (w .1 .0, node-open d s f g ∙ w .1 .1 ∙ ap (λ t. some (w .1 .0, t)) (drop-drop m 1 s)))
-
 -- ---- what is read, made into something that is as sound
 
 pub checks-onto : {A B : Type 0} (f : A → B) (sa : A → Bool) (sb : B → Bool) → ((a : A) → sa a ≡ sb (f a)) → (x : Read A) (s : List ℕ) (c : Checked) → Checks sa x s c → Checks sb (onto f x) s c
 unfolding Checks
 checks-onto f sa sb h x s (Of n b) w = (w .0, (f (w .1 .0), (bind-some (w .1 .0, drop n s) _ (w .1 .1 .0), w .1 .1 .1 ∙ h (w .1 .0))))
 checks-onto f sa sb h x s Broken w = bind-none _ w
-
-pub measured-onto : {A B : Type 0} (f : A → B) (x : Read A) (s : List ℕ) (l : Len) → Measured x s l → Measured (onto f x) s l
-unfolding Measured
-measured-onto f x s (len.Of n) w = (w .0, (f (w .1 .0), bind-some (w .1 .0, drop n s) _ (w .1 .1)))
-measured-onto f x s len.Broken w = bind-none _ w
 
 module _ (node : List ℕ → Read Schema) (s : List ℕ) where
   pub array-content : readSchemaContent node 8 s ≡ onto Schema.Array (node s)
@@ -149,13 +137,6 @@ module _ (node : List ℕ → Read Schema) (s : List ℕ) (a : ℕ) where
           let r = held _ _ _ b kinds w in
           union-none₃ node s a (q .what) (q .read) b (r .what) (r .read) (none-checks _ _ _ u)
 
-      pub union-measured : (d : ℕ) (named : Bool) → Checks (positionsSound count) (readList (readNumber 2) (drop (a + b) s)) (drop (a + b) s) (Of d named) → Measured (readSchemaContent node 10 s) s (len.Of (a + b + d))
-      union-measured d named u =
-          let q : Long (readList node s) s a = long _ _ a v in
-          let r = held _ _ _ b kinds w in
-          let t = held _ _ _ d named u in
-          measured-of _ s (a + b + d) (omega (arith, q .inside, r .inside, t .inside, length-drop a s, length-drop (a + b) s)) _ (union-got node s a (q .what) (q .read) b (r .what) (r .read) d (t .what) (t .read))
-
   module _ (v : Measured (readText s) s (len.Of a)) where
     pub field-broken₂ : Checks defaultAllowed (readOption (readValue 16) (drop a s)) (drop a s) Broken → readField node s ≡ none
     field-broken₂ w =
@@ -168,13 +149,6 @@ module _ (node : List ℕ → Read Schema) (s : List ℕ) (a : ℕ) where
           let q : Long (readText s) s a = long _ _ a v in
           let r = held _ _ _ b ok w in
           field-none₃ node s a (q .what) (q .read) b (r .what) (r .read) u
-
-      pub field-measured : (m : ℕ) → Measured (node (drop (a + b) s)) (drop (a + b) s) (len.Of m) → Measured (readField node s) s (len.Of (a + b + m))
-      field-measured m u =
-          let q : Long (readText s) s a = long _ _ a v in
-          let r = held _ _ _ b ok w in
-          let t : Long (node (drop (a + b) s)) (drop (a + b) s) m = long _ _ m u in
-          measured-of _ s (a + b + m) (omega (arith, q .inside, r .inside, t .inside, length-drop a s, length-drop (a + b) s)) _ (field-got node s a (q .what) (q .read) b (r .what) (r .read) m (t .what) (t .read))
 
       pub field-checks : (m : ℕ) (fine both : Bool) → Checks schemaSound (node (drop (a + b) s)) (drop (a + b) s) (Of m fine) → both ≡ ok && fine → Checks fieldSound (readField node s) s (Of (a + b + m) both)
       field-checks m fine both u e =

@@ -1,26 +1,22 @@
 -- Reading many things one after another, over any reader of one: the loops that read and check, and numbers in front.
 use Prim.Native.Nat.{ℕ, zero, suc, _+_, _-_, _≤_, _<_}
-use mathlib.Core.Path.{_≡_, refl, sym, ap, _∙_, subst}
+use mathlib.Core.Path.{_≡_, refl, sym, ap, _∙_}
 use mathlib.Core.List.{List, [], _∷_}
 use mathlib.Core.Option.{Option, none, some}
 use mathlib.Core.Bool.{Bool, true, false, _&&_}
 use native.Mathlib.Omega.{arith}
 use native.Mathlib.Numerals.{sub-one}
-use lib.Dec.{leb}
 use native.Mathlib.Nat.{mul-one, pow-zero}
 use lib.ListN.{length, take, drop, getD, length-drop}
 use lib.Seq.{take-all, drop-drop}
 use borrow.Author.Tests.{le-leb, lt-leb}
 use Rattle.number.specs.Number.{bigEndian, numberAt}
 use Rattle.text.specs.Read.{Read, _>>=_, readBytes, readNumber}
-use Rattle.text.specs.Measured.{Measured, Reads}
-use Rattle.text.specs.declared.Len.{Len}
+use Rattle.text.specs.Measured.{Measured}
 use Rattle.text.specs.declared.Len.the-variants as len
 use Rattle.frame.specs.Readers.{readMany, readList}
 use Rattle.frame.specs.Checks.{Checks}
-use Rattle.frame.specs.declared.Checked.{Checked}
 use Rattle.frame.specs.declared.Checked.the-variants.{Of, Broken}
-use Rattle.schema.specs.Answer.{lengthOf}
 
 -- the part from a place to the end, as code lends it
 pub tail : (n : ℕ) (s : List ℕ) → take (length s - n) (drop n s) ≡ drop n s
@@ -84,10 +80,9 @@ module _ {A : Type 0} (x : Read A) (s : List ℕ) where
   measured-of n h a e = (h, (a, e))
 
 -- the length alone
-pub measured-checks : {A : Type 0} (sound : A → Bool) (x : Read A) (s : List ℕ) (c : Checked) → Checks sound x s c → Measured x s (lengthOf c)
+pub measured-checks : {A : Type 0} (sound : A → Bool) (x : Read A) (s : List ℕ) (n : ℕ) (b : Bool) → Checks sound x s (Of n b) → Measured x s (len.Of n)
 unfolding Checks Measured
-measured-checks sound x s (Of n b) w = (w .0, (w .1 .0, w .1 .1 .0))
-measured-checks sound x s Broken w = w
+measured-checks sound x s n b w = (w .0, (w .1 .0, w .1 .1 .0))
 
 -- ---- what was read is one thing
 
@@ -239,4 +234,4 @@ module _ {A : Type 0} (x : Read (List A)) (p : List ℕ → Read A) (s : List �
   walking-none h v = measured-none x s (going-none x p (λ _. true) s at left true (λ _. true) w h (none-measured _ _ v))
 
   pub walking-end : left ≤ 0 → Measured x s (len.Of at)
-  walking-end h = measured-checks (λ _. true) x s (Of at true) (going-end x p (λ _. true) s at left true (λ _. true) w h refl)
+  walking-end h = measured-checks (λ _. true) x s at true (going-end x p (λ _. true) s at left true (λ _. true) w h refl)

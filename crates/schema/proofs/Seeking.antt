@@ -1,39 +1,30 @@
 -- Looking through fields that are known to be there.
-use Prim.Native.Nat.{ℕ, zero, suc, _+_, _-_, _≤_, _<_}
-use mathlib.Core.Path.{_≡_, refl, sym, ap, _∙_, subst}
+use Prim.Native.Nat.{ℕ, suc, _+_, _-_, _≤_, _<_}
+use mathlib.Core.Path.{_≡_, refl, sym, ap, _∙_}
 use mathlib.Core.List.{List, [], _∷_}
 use mathlib.Core.Option.{Option, none, some}
-use mathlib.Core.Bool.{Bool, true, false, _&&_, _||_, not}
+use mathlib.Core.Bool.{Bool, true, false, _&&_, not}
 use native.Mathlib.Omega.{arith}
-use lib.ListN.{length, take, drop, length-drop}
+use lib.ListN.{length, drop, length-drop}
 use lib.Seq.{drop-drop}
 use Rattle.base.specs.Base.{if_then_else_}
-use Rattle.number.specs.Number.{numberAt}
 use Rattle.utf8.specs.Utf8.{isUtf8}
-use Rattle.text.specs.Text.{Text, same}
+use Rattle.text.specs.Text.{Text}
 use Rattle.text.specs.Read.{Read, _>>=_, readCounted, readText}
-use Rattle.text.specs.Measured.{Measured, Reads}
+use Rattle.text.specs.Measured.{Reads}
 use Rattle.text.specs.declared.Len.the-variants as len
-use Rattle.frame.specs.Tree.{Value, Schema}
+use Rattle.frame.specs.Tree.{Schema}
 use Rattle.frame.specs.Readers.{readMany, readList, readOption}
 use Rattle.frame.specs.ValueFrame.{readValue}
 use Rattle.frame.specs.SchemaFrame.{fieldsOf, readField}
 use Rattle.frame.specs.Sound.{schemaSound, fieldsSound, defaultAllowed, hasField}
 use Rattle.frame.specs.Checks.{Spans}
-use Rattle.schema.specs.Parts.{Field, fieldSound, eachSound, namesDiffer}
-use Rattle.schema.proofs.Reading.{onto, many-suc, list-got, list-short, read-what, read-rest, not-both, none-measured}
+use Rattle.schema.specs.Parts.{Field, eachSound, namesDiffer}
+use Rattle.schema.proofs.Reading.{many-suc, list-short, read-what, read-rest, not-both}
 use borrow.Author.Tests.{leb-true, leb-false}
 use lib.Dec.{leb}
 
 -- ---- what is known to be there has a length
-
-pub spans-measured : {A : Type 0} (x : Read A) (s : List ℕ) (n : ℕ) → Measured x s (len.Of n) → Spans x s n
-unfolding Measured Spans
-spans-measured x s n w = w
-
-pub spans-never : {A : Type 0} (x : Read A) (s : List ℕ) (n : ℕ) → Reads x → Measured x s len.Broken → Spans x s n
-unfolding Reads
-spans-never x s n r w = absurd (not-both (none-measured x s w) (r .1 .1))
 
 pub spans-inside : {A : Type 0} (x : Read A) (s : List ℕ) (n : ℕ) → Spans x s n → n ≤ length s
 unfolding Spans

@@ -3,25 +3,22 @@
 use Prim.Native.Nat.{ℕ, zero, suc, _+_, _-_, _*_, _≤_, _<_}
 use mathlib.Core.Path.{_≡_, refl, sym, ap, _∙_, subst}
 use mathlib.Core.List.{List, [], _∷_}
-use mathlib.Core.Option.{Option, none, some}
+use mathlib.Core.Option.{none, some}
 use mathlib.Core.Bool.{Bool, true, false}
 use native.Mathlib.Omega.{arith}
-use lib.Dec.{leb, eqb}
-use lib.ListN.{length, drop, getD, length-drop}
+use lib.Dec.{eqb}
+use lib.ListN.{length, drop, getD}
 use lib.Seq.{drop-drop}
-use borrow.Author.Tests.{eqb-true, eqb-false, le-leb, lt-leb, ne-eqb}
-use Rattle.base.specs.Base.{if_then_else_}
+use borrow.Author.Tests.{eqb-true, eqb-false, ne-eqb}
 use Rattle.number.specs.Number.{numberAt}
-use Rattle.text.specs.Text.{Text}
 use Rattle.text.specs.Read.{Read, _>>=_, readNumber, readCounted, readText}
 use Rattle.text.specs.Measured.{Reads}
-use Rattle.text.proofs.ReadLaws.{reads-text}
-use Rattle.frame.specs.Tree.{Value, Schema, Variants}
+use Rattle.frame.specs.Tree.{Schema}
 use Rattle.frame.specs.Readers.{readFlag, readMany, readList, readOption}
 use Rattle.frame.specs.ValueFrame.{readValue}
-use Rattle.frame.specs.SchemaFrame.{fieldsOf, variantsOf, readField, readLead, readUuidForm, readSchemaContent, readSchema}
+use Rattle.frame.specs.SchemaFrame.{variantsOf, readField, readLead, readSchemaContent, readSchema}
 use Rattle.frame.specs.Checks.{Spans}
-use Rattle.value.proofs.ReaderLaws.{mapRead, reads-eq, reads-first, reads-behind, reads-flag, not-reads, reads-list, list-many, many-zero, spans-le, spans-some, spans-eq, spans-drop, spans-map, spans-after, number-spans, text-spans}
+use Rattle.value.proofs.ReaderLaws.{mapRead, reads-eq, reads-first, reads-behind, reads-flag, not-reads, reads-list, list-many, spans-some, spans-eq, spans-drop, spans-map, spans-after, number-spans, text-spans}
 use Rattle.schema.proofs.Leaves.{option-zero, option-one, option-other}
 use Rattle.schema.proofs.Nodes.{node-deep, node-empty, node-open, array-content, map-content, record-content}
 

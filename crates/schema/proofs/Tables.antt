@@ -1,22 +1,22 @@
 -- The loops over the two tables of a union.
 use Prim.Native.Nat.{ℕ, zero, suc, _+_, _-_, _≤_, _<_}
-use mathlib.Core.Path.{_≡_, refl, sym, ap, _∙_, subst}
-use mathlib.Core.List.{List, [], _∷_}
-use mathlib.Core.Option.{Option, none, some}
+use mathlib.Core.Path.{_≡_, refl, sym, ap, _∙_}
+use mathlib.Core.List.{List}
+use mathlib.Core.Option.{none, some}
 use mathlib.Core.Bool.{Bool, true, false, _&&_}
 use native.Mathlib.Omega.{arith}
 use native.Mathlib.Numerals.{add-one}
 use native.Mathlib.Nat.{add-zero}
-use lib.Dec.{leb, ltb, eqb}
+use lib.Dec.{leb, ltb}
 use lib.ListN.{length, take, drop, getD, length-drop}
 use lib.Seq.{drop-drop, getD-drop}
 use borrow.Author.Tests.{leb-true, leb-false}
 use Rattle.number.specs.Number.{bigEndian, numberAt}
-use Rattle.text.specs.Read.{Read, _>>=_, readNumber}
-use Rattle.frame.specs.Readers.{readMany, readList}
+use Rattle.text.specs.Read.{_>>=_, readNumber}
+use Rattle.frame.specs.Readers.{readList}
 use Rattle.frame.specs.SchemaFrame.{readLead}
 use Rattle.frame.specs.Sound.{kindsSound, positionsSound}
-use Rattle.schema.proofs.Reading.{Going, going-step, number-got, number-short, number-one, bind-none, and-assoc}
+use Rattle.schema.proofs.Reading.{Going, going-step, number-got, number-short, number-one, and-assoc}
 
 pub lead-short : (s : List ℕ) → length s < 3 → readLead s ≡ none
 unfolding readLead _>>=_

@@ -298,7 +298,7 @@ union-check-part-leads-check-start : (t : ℕ) → union-check-lts.Need-part-lea
 union-check-part-leads-check-start t c = omega (arith, (held _ _ _ _ _ (rw (c .before .before .a .given .1) at (c .before .before .before .before .variants-check .ensures))) .inside)
 
 union-check-returns-2 : (t : ℕ) → union-check-lts.Need-returns-2 (union-check-claims t) (union-check-at t) union-check.Post
-union-check-returns-2 t c = checks-none _ _ _ (union-broken₂ _ _ _ (measured-checks _ _ _ _ (rw (c .before .before .before .before .before .before .a .given .1) at (c .before .before .before .before .before .before .before .before .variants-check .ensures))) _ (rw (c .enum-told2 .given .1, tail) at (c .before .before .leads-check .ensures)))
+union-check-returns-2 t c = checks-none _ _ _ (union-broken₂ _ _ _ (measured-checks _ _ _ _ _ (rw (c .before .before .before .before .before .before .a .given .1) at (c .before .before .before .before .before .before .before .before .variants-check .ensures))) _ (rw (c .enum-told2 .given .1, tail) at (c .before .before .leads-check .ensures)))
 
 union-check-add-e : (t : ℕ) → union-check-lts.Need-add-e (union-check-claims t) (union-check-at t) union-check.Post
 union-check-add-e t c = omega (arith, (held _ _ _ _ _ (rw (c .before .before .before .before .before .before .before .a .given .1) at (c .before .before .before .before .before .before .before .before .before .variants-check .ensures))) .inside, (held _ _ _ _ _ (rw (c .before .b .given .1, tail) at (c .before .before .before .leads-check .ensures))) .inside, length-drop (c .before .before .before .before .before .before .before .a .given .0 .0) (c .before .before .before .before .before .before .before .before .before .before .before .args .s .now), c .before .before .before .before .before .before .before .before .before .before .before .good)
@@ -310,7 +310,7 @@ union-check-part-positions-check-start : (t : ℕ) → union-check-lts.Need-part
 union-check-part-positions-check-start t c = omega (arith, (held _ _ _ _ _ (rw (c .before .before .before .before .before .before .before .a .given .1) at (c .before .before .before .before .before .before .before .before .before .variants-check .ensures))) .inside, (held _ _ _ _ _ (rw (c .before .b .given .1, tail) at (c .before .before .before .leads-check .ensures))) .inside, length-drop (c .before .before .before .before .before .before .before .a .given .0 .0) (c .before .before .before .before .before .before .before .before .before .before .before .args .s .now))
 
 union-check-returns-3 : (t : ℕ) → union-check-lts.Need-returns-3 (union-check-claims t) (union-check-at t) union-check.Post
-union-check-returns-3 t c = checks-none _ _ _ (union-broken₃ _ _ _ (measured-checks _ _ _ _ (rw (c .before .before .before .before .before .before .before .before .before .before .before .a .given .1) at (c .before .before .before .before .before .before .before .before .before .before .before .before .before .variants-check .ensures))) _ _ _ (rw (c .before .before .before .before .before .b .given .1, tail) at (c .before .before .before .before .before .before .before .leads-check .ensures)) (rw (c .enum-told3 .given .1, tail) at (c .before .before .positions-check .ensures)))
+union-check-returns-3 t c = checks-none _ _ _ (union-broken₃ _ _ _ (measured-checks _ _ _ _ _ (rw (c .before .before .before .before .before .before .before .before .before .before .before .a .given .1) at (c .before .before .before .before .before .before .before .before .before .before .before .before .before .variants-check .ensures))) _ _ _ (rw (c .before .before .before .before .before .b .given .1, tail) at (c .before .before .before .before .before .before .before .leads-check .ensures)) (rw (c .enum-told3 .given .1, tail) at (c .before .before .positions-check .ensures)))
 
 union-check-add-t16 : (t : ℕ) → union-check-lts.Need-add-t16 (union-check-claims t) (union-check-at t) union-check.Post
 union-check-add-t16 t c = omega (arith, (held _ _ _ _ _ (rw (c .before .before .before .before .before .before .before .before .before .before .before .before .before .before .before .a .given .1) at (c .before .before .before .before .before .before .before .before .before .before .before .before .before .before .before .before .before .variants-check .ensures))) .inside, (held _ _ _ _ _ (rw (c .before .before .before .before .before .before .before .before .before .b .given .1, tail) at (c .before .before .before .before .before .before .before .before .before .before .before .leads-check .ensures))) .inside, length-drop (c .before .before .before .before .before .before .before .before .before .before .before .before .before .before .before .a .given .0 .0) (c .before .before .before .before .before .before .before .before .before .before .before .before .before .before .before .before .before .before .before .args .s .now), (held _ _ _ _ _ (rw (c .before .before .before .before .d .given .1, tail) at (c .before .before .before .before .before .before .positions-check .ensures))) .inside, length-drop (c .before .before .before .before .before .before .before .before .before .before .before .before .before .before .before .a .given .0 .0 + c .before .before .before .before .before .before .before .before .before .b .given .0 .0) (c .before .before .before .before .before .before .before .before .before .before .before .before .before .before .before .before .before .before .before .args .s .now), c .before .before .before .before .before .before .before .before .before .before .before .before .before .before .before .before .before .before .before .good)

@@ -4,7 +4,7 @@ use mathlib.Core.Path.{_≡_, refl, sym, ap, _∙_}
 use native.Mathlib.Omega.{arith}
 use lib.ListN.{length, length-set, drop, length-drop}
 use Rattle.frame.specs.Readers.{readMany}
-use Rattle.frame.specs.SchemaFrame.{readField, readSchema, fieldsOf}
+use Rattle.frame.specs.SchemaFrame.{readField, readSchema}
 use Rattle.schema.specs.Slot.{slotOf}
 use Rattle.schema.proofs.Reading.{tail, list-got}
 use Rattle.schema.proofs.Seeking.{left-reads, list-long, spans-inside}

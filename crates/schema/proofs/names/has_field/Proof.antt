@@ -2,7 +2,7 @@
 use borrow.Author.Needs.{needs}
 use native.Mathlib.Omega.{arith}
 use mathlib.Core.Path.{refl, sym, _∙_}
-use lib.ListN.{length, drop, length-drop}
+use lib.ListN.{length-drop}
 use Rattle.frame.specs.Readers.{readMany}
 use Rattle.frame.specs.SchemaFrame.{readField, readSchema, fieldsOf}
 use Rattle.frame.specs.Sound.{hasField}

@@ -1,6 +1,5 @@
 -- `schema::names::repeats` meets its contract. Assumes nothing.
 use mathlib.Core.Path.{sym}
-use borrow.Author.Needs.{needs}
 use Rattle.schema.proofs.names.repeats.Statement.{statement}
 use Rattle.schema.proofs.names.repeats.Tie as tie
 

@@ -1,8 +1,6 @@
 -- `schema::plain::option_text_skip` meets its contract. Assumes nothing.
 use native.Mathlib.Omega.{arith}
-use Prim.Native.Nat.{_+_}
 use mathlib.Core.Path.{subst}
-use lib.ListN.{length}
 use Rattle.text.specs.Read.{readText}
 use Rattle.text.proofs.ReadLaws.{reads-text}
 use Rattle.frame.specs.Readers.{readOption}

@@ -3,7 +3,7 @@ use native.Mathlib.Omega.{arith}
 use lib.ListN.{length-drop}
 use Rattle.text.specs.Read.{readText}
 use Rattle.text.proofs.ReadLaws.{reads-text}
-use Rattle.value.proofs.ReaderLaws.{suffix, spans-le, reads-list, Skipping, skipping-start, skipping-first, skipping-step, skipping-end}
+use Rattle.value.proofs.ReaderLaws.{suffix, reads-list, Skipping, skipping-start, skipping-first, skipping-step, skipping-end}
 use Rattle.schema.proofs.Skipping.{text-held}
 use borrow.Author.Needs.{needs}
 use Rattle.schema.proofs.plain.texts_skip.Statement.{statement}

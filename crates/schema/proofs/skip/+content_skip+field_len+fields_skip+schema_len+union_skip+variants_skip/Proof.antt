@@ -1,10 +1,9 @@
 -- `schema::skip::schema_len`, `field_len` and the functions that they call in a cycle meet their contracts. The depth falls from a node to its content; within a depth, from the content over its parts to a node. Assumes nothing.
 use native.Mathlib.Omega.{arith}
 use Prim.Native.Nat.{ℕ, _+_, _*_, _<_}
-use mathlib.Core.Path.{sym}
-use lib.ListN.{length, drop, length-drop}
+use lib.ListN.{length, length-drop}
 use Rattle.text.proofs.ReadLaws.{reads-text}
-use Rattle.frame.specs.SchemaFrame.{readField, readSchemaContent, readSchema}
+use Rattle.frame.specs.SchemaFrame.{readField, readSchema}
 use Rattle.value.proofs.ReaderLaws.{suffix, reads-eq, spans-le, spans-eq, reads-list, Skipping, skipping-start, skipping-first, skipping-step, skipping-end}
 use Rattle.schema.proofs.Skipping.{text-held, leaf-content, array-known, array-spans, map-known, map-spans, record-known, record-spans, union-variants, union-leads, union-positions, union-spans, field-text, field-default, field-schema, field-spans, known-depth, known-byte, known-content, schema-spans}
 use borrow.Author.Needs.{needs}
