@@ -78,14 +78,12 @@ pub fn find_last(v: &[u8], name: &[u8], depth: usize) -> Found
         left -= 1;
     }
     find_at(last)
-<<<<<<< HEAD
-=======
 }
 
 // Notes where the names of a Record's or Map's entries stand; false where there are too many for the table.
 pub fn mark(v: &[u8], depth: usize, t: &mut [u16; 2560]) -> bool
     requires { ⌜ Reads (readValue depth (now v)) × Keyed (now v) × (now t ≡ replicate 2560 0) ⌝ }
-    ensures { λ r. ⌜ Marked r (now (t .exit)) depth (now (v .entry)) ⌝ }
+    ensures { λ r. ⌜ Marked r (now (t .exit)) depth (now (v .entry)) × (length (now (t .exit)) ≡ 2560) ⌝ }
 {
     let count = number::read2(v, 1) as usize;
     if 1024 < count {
@@ -118,5 +116,4 @@ pub fn find_in(v: &[u8], name: &[u8], depth: usize, t: &[u16], marked: bool) -> 
         return Found::Nothing;
     }
     Found::At(place + 2 + name.len())
->>>>>>> 84a61986ba4234791c4ddb86286c4cf8172c0029
 }

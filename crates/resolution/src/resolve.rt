@@ -24,7 +24,8 @@ use buffer::room;
 use field::field_at;
 use find::Found;
 use find::entry_len;
-use find::find_last;
+use find::find_in;
+use find::mark;
 use find::peel;
 use schema::field_len;
 use schema::schema_len;
@@ -37,6 +38,7 @@ ghost use Rattle.frame.specs.ValueFrame.{readEntry, readValue};
 ghost use Rattle.frame.specs.SchemaFrame.{readField, readSchema};
 ghost use Rattle.buffer.specs.Built.{Wrote};
 ghost use Rattle.find.specs.Find.{Keyed};
+ghost use Rattle.find.specs.Marks.{Marked};
 ghost use Rattle.resolution.specs.Contract.{Ready, ReadyDefault, ReadyField, defaultBytes, entryBytes, fieldBytes, nodeBytes, onBoth, peeledBytes, namedTable, variantBytes};
 ghost use mathlib.Core.Option.{some};
 ghost use Rattle.avro.specs.Union.{firstThatResolves, namedVariant};
@@ -136,17 +138,39 @@ fn resolve_record(s: &[u8], v: &[u8], out: &mut [u8], ds: usize, dv: usize) -> A
     ensures { λ r. ⌜ Wrote (onBoth peeledBytes (readSchema ds (now (s .entry))) (readValue dv (now (v .entry)))) (now (out .exit)) r ⌝ }
 {
     if v[0] == 0x0b {
-        return fields(s, v, out, ds, dv);
+        return keyed(s, v, out, ds, dv);
     }
     if v[0] == 0x09 {
-        return fields(s, v, out, ds, dv);
+        return keyed(s, v, out, ds, dv);
     }
     Answer::Refused(6)
 }
 
-// The fields of a record schema, for a Record or a Map.
-fn fields(s: &[u8], v: &[u8], out: &mut [u8], ds: usize, dv: usize) -> Answer
+// A Record or a Map against a record schema. Where it has many entries, their names are marked, to be found at once.
+fn keyed(s: &[u8], v: &[u8], out: &mut [u8], ds: usize, dv: usize) -> Answer
     requires { ⌜ Ready ds (now s) × Reads (readValue dv (now v)) × (getD (now s) 0 0 ≡ 11) × Keyed (now v) ⌝ }
+    ensures { λ r. ⌜ Wrote (onBoth peeledBytes (readSchema ds (now (s .entry))) (readValue dv (now (v .entry)))) (now (out .exit)) r ⌝ }
+{
+    if number::read2(v, 1) <= 16 {
+        let none = [0u16; 1];
+        return fields(s, v, out, ds, dv, &none, false);
+    }
+    let mut names = [0u16; 2560];
+    let marked = mark(v, dv, &mut names);
+    fields(s, v, out, ds, dv, &names, marked)
+}
+
+// The fields of a record schema, for a Record or a Map.
+fn fields(
+    s: &[u8],
+    v: &[u8],
+    out: &mut [u8],
+    ds: usize,
+    dv: usize,
+    names: &[u16],
+    marked: bool,
+) -> Answer
+    requires { ⌜ Ready ds (now s) × Reads (readValue dv (now v)) × (getD (now s) 0 0 ≡ 11) × Keyed (now v) × Marked marked (now names) dv (now v) ⌝ }
     ensures { λ r. ⌜ Wrote (onBoth peeledBytes (readSchema ds (now (s .entry))) (readValue dv (now (v .entry)))) (now (out .exit)) r ⌝ }
 {
     let mut left = number::read2(s, 1);
@@ -154,7 +178,7 @@ fn fields(s: &[u8], v: &[u8], out: &mut [u8], ds: usize, dv: usize) -> Answer
     let mut from: usize = 3;
     while 0 < left {
         let o = room(at, out.len());
-        match one_field(&s[from..], v, &mut out[o..], ds - 1, dv) {
+        match one_field(&s[from..], v, &mut out[o..], ds - 1, dv, names, marked) {
             Answer::Accepted(m) => {
                 at = joined(at, m);
             }
@@ -169,8 +193,16 @@ fn fields(s: &[u8], v: &[u8], out: &mut [u8], ds: usize, dv: usize) -> Answer
 }
 
 // One field: its name, and the last value under it or its default.
-fn one_field(s: &[u8], v: &[u8], out: &mut [u8], ds: usize, dv: usize) -> Answer
-    requires { ⌜ ReadyField ds (now s) × Reads (readValue dv (now v)) × Keyed (now v) ⌝ }
+fn one_field(
+    s: &[u8],
+    v: &[u8],
+    out: &mut [u8],
+    ds: usize,
+    dv: usize,
+    names: &[u16],
+    marked: bool,
+) -> Answer
+    requires { ⌜ ReadyField ds (now s) × Reads (readValue dv (now v)) × Keyed (now v) × Marked marked (now names) dv (now v) ⌝ }
     ensures { λ r. ⌜ Wrote (onBoth fieldBytes (readField (readSchema ds) (now (s .entry))) (readValue dv (now (v .entry)))) (now (out .exit)) r ⌝ }
 {
     let name = text::content(s);
@@ -179,7 +211,7 @@ fn one_field(s: &[u8], v: &[u8], out: &mut [u8], ds: usize, dv: usize) -> Answer
     let o = room(at, out.len());
     let f = field_at(s, ds);
     let schema = f.schema_at;
-    match find_last(v, name, dv) {
+    match find_in(v, name, dv, names, marked) {
         Found::At(p) => match resolve_node(&s[schema..], &v[p..], &mut out[o..], ds, dv - 1) {
             Answer::Accepted(m) => Answer::Accepted(joined(at, m)),
             Answer::Refused(e) => Answer::Refused(e),

@@ -1,8 +1,10 @@
 -- `find::mark` meets its contract. The loop's invariant: the table holds the places of the names passed, and for every name the
 -- value is in the entries to come, or else it is behind its last place. The measure is the number of entries to come.
 use borrow.Author.Needs.{needs}
-use Prim.Native.Nat.{_-_}
+use Prim.Native.Nat.{ℕ, _-_}
+use mathlib.Core.Path.{ap, _∙_}
 use mathlib.Core.List.{[]}
+use lib.ListN.{length, length-replicate}
 use native.Mathlib.Omega.{arith}
 use Rattle.value.proofs.ReaderLaws.{suffix}
 use Rattle.value.proofs.SkipLaws.{known-depth}
@@ -24,13 +26,13 @@ cast-count : tie.Need-cast-count Inv-loop μ-loop
 cast-count c = search needs
 
 returns : tie.Need-returns Inv-loop μ-loop
-returns c = marked-not _ _ _
+returns c = (marked-not _ _ _, ap length (c .before .before .before .pre .2) ∙ length-replicate {A = ℕ} 2560 0)
 
 loop-holds : tie.Need-loop-holds Inv-loop μ-loop
 loop-holds c = marking-start _ _ _ _ (c .before .before .before .pre .0) (c .before .before .before .pre .1) (c .before .before .before .pre .2) (c .before .read2 .ensures)
 
 returns-2 : tie.Need-returns-2 Inv-loop μ-loop
-returns-2 c = marked-not _ _ _
+returns-2 c = (marked-not _ _ _, c .before .before .loop .inv .indexed .size)
 
 add-requires : tie.Need-add-requires Inv-loop μ-loop
 add-requires c κs = (omega arith, (c .before .before .before .loop .inv .behind, (omega arith, marking-name _ _ _ _ _ _ (c .before .before .before .loop .inv) (c .before .before .before .before .before .before .before .pre .0) (c .before .before .loop-test .taken))))
@@ -81,7 +83,7 @@ loop-again : tie.Need-loop-again Inv-loop μ-loop
 loop-again c = marking-step _ _ _ _ _ _ (c .before .before .before .before .before .before .before .before .loop .inv) (c .before .before .before .before .before .before .before .before .before .before .before .before .pre .0) (c .before .before .before .before .before .before .before .loop-test .taken) _ (rw suffix at (c .before .before .content .ensures .0)) (rw suffix at (c .before .before .content .ensures .1 .0)) _ _ (c .before .before .before .before .add .ensures) (rw suffix at (c .value-len .ensures))
 
 returns-3 : tie.Need-returns-3 Inv-loop μ-loop
-returns-3 c = marking-end _ _ _ _ _ _ (c .before .loop .inv) (omega arith)
+returns-3 c = (marking-end _ _ _ _ _ _ (c .before .loop .inv) (omega arith), c .before .loop .inv .indexed .size)
 
 pub mark-spec : {M : Type 1} → statement M
 mark-spec =
