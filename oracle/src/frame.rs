@@ -26,9 +26,9 @@ pub enum Value {
     Decimal(Vec<u8>),
     Uuid([u8; 16]),
     /// kinds 10 and 11
-    T32(u8, i32),
+    Time32(u8, i32),
     /// kinds 12 to 18
-    T64(u8, i64),
+    Time64(u8, i64),
     Duration([u8; 12]),
 }
 
@@ -98,8 +98,8 @@ impl Value {
             Value::Fixed(_) => 0x0d,
             Value::Decimal(_) => 0x0e,
             Value::Uuid(_) => 0x0f,
-            Value::T32(k, _) => *k,
-            Value::T64(k, _) => *k,
+            Value::Time32(k, _) => *k,
+            Value::Time64(k, _) => *k,
             Value::Duration(_) => 0x19,
         }
     }
@@ -226,8 +226,8 @@ impl<'a> Reader<'a> {
             0x0d => Value::Fixed(self.bytes()?),
             0x0e => Value::Decimal(self.bytes()?),
             0x0f => Value::Uuid(self.take(16)?.try_into().unwrap()),
-            k @ (0x10 | 0x11) => Value::T32(k, self.u32()? as i32),
-            k @ 0x12..=0x18 => Value::T64(k, self.u64()? as i64),
+            k @ (0x10 | 0x11) => Value::Time32(k, self.u32()? as i32),
+            k @ 0x12..=0x18 => Value::Time64(k, self.u64()? as i64),
             0x19 => Value::Duration(self.take(12)?.try_into().unwrap()),
             _ => return Err(Broken),
         })
@@ -392,8 +392,8 @@ pub fn write_value(out: &mut Vec<u8>, v: &Value) {
     match v {
         Value::Null => {}
         Value::Bool(b) => out.push(*b as u8),
-        Value::Int(n) | Value::T32(_, n) => out.extend_from_slice(&n.to_be_bytes()),
-        Value::Long(n) | Value::T64(_, n) => out.extend_from_slice(&n.to_be_bytes()),
+        Value::Int(n) | Value::Time32(_, n) => out.extend_from_slice(&n.to_be_bytes()),
+        Value::Long(n) | Value::Time64(_, n) => out.extend_from_slice(&n.to_be_bytes()),
         Value::Float(b) => out.extend_from_slice(&b.to_be_bytes()),
         Value::Double(b) => out.extend_from_slice(&b.to_be_bytes()),
         Value::Bytes(b) | Value::Fixed(b) | Value::Decimal(b) => wtext(out, b),

@@ -44,7 +44,7 @@ pub fn memory(n: usize, seed: u64) -> bool {
             break;
         }
         let (schema, values) = given.case;
-        let broken_schema = r.pct(40);
+        let broken_schema = r.percent(40);
         let schema = if broken_schema { damage(&mut r, schema) } else { schema };
         damaged += broken_schema as usize;
         let values: Vec<Vec<u8>> = values.into_iter().take(6).map(|v| damage(&mut r, v)).collect();

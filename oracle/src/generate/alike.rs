@@ -48,7 +48,7 @@ fn alike_node(r: &mut Rng, v: &Value, s: &Schema) -> Value {
                     }
                 }
             }
-            while r.pct(40) {
+            while r.percent(40) {
                 let name = r.pick(&["x0", "x1", "x7", "extra", "~", "0"]).to_string();
                 if fields.iter().all(|f| f.name != name) && out.iter().all(|(n, _)| *n != name) {
                     out.insert(r.below(out.len() + 1), (name, any(r, 2)));
@@ -60,6 +60,19 @@ fn alike_node(r: &mut Rng, v: &Value, s: &Schema) -> Value {
             }
         }
         _ => v.clone(),
+    }
+}
+
+/// Takes the entries for kind 00 out of all kind tables; the unions are still nullable pairs.
+fn without_null_entries(s: &mut Schema) {
+    match s {
+        Schema::Array(s) | Schema::Map(s) => without_null_entries(s),
+        Schema::Record(fields) => fields.iter_mut().for_each(|f| without_null_entries(&mut f.schema)),
+        Schema::Union(u) => {
+            u.kinds.retain(|e| e.0 != 0);
+            u.variants.iter_mut().for_each(without_null_entries);
+        }
+        _ => {}
     }
 }
 
@@ -75,7 +88,10 @@ pub fn alike_cases(seed: u64) -> impl Iterator<Item = Alike> {
     std::iter::from_fn(move || {
         let h = How { pairs: true, odd: 30, wrong: r.pick(&[0, 0, 1, 4]), wrap: 6, default: 45 };
         let d = r.range(2, 5);
-        let schema = if r.pct(75) { record(&mut r, d, h) } else { schema(&mut r, d, h) };
+        let mut schema = if r.percent(75) { record(&mut r, d, h) } else { schema(&mut r, d, h) };
+        if r.percent(20) {
+            without_null_entries(&mut schema);
+        }
         let mut pair = || {
             let a = value(&mut r, &schema, 14, h);
             let b = alike(&mut r, &a, &schema);

@@ -36,7 +36,7 @@ pub fn damage(r: &mut Rng, mut b: Vec<u8>) -> Vec<u8> {
 /// A map whose keys may fall or repeat.
 pub fn unruly_map(r: &mut Rng) -> Value {
     let a = key(r);
-    let b = if r.pct(30) { a.clone() } else { key(r) };
+    let b = if r.percent(30) { a.clone() } else { key(r) };
     Value::Map(vec![(a, Value::Null), (b, Value::Int(1))])
 }
 
@@ -90,7 +90,7 @@ pub fn rough(r: &mut Rng, (s, v): &Case) -> Vec<u8> {
         }
         t.push_str(&l);
     }
-    if r.pct(70) {
+    if r.percent(70) {
         t.push('\n');
     }
     t.into_bytes()

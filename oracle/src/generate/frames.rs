@@ -22,7 +22,7 @@ pub fn keys(r: &mut Rng) -> Case {
     let v = (0..VALUES)
         .map(|_| {
             let mut v = value(r, &s, 5, h);
-            if r.pct(50) {
+            if r.percent(50) {
                 let inner = unruly_map(r);
                 let extra = match r.below(3) {
                     0 => Value::Array(vec![inner]),
@@ -65,7 +65,7 @@ pub fn flags(r: &mut Rng) -> Case {
         *x.last_mut().unwrap() = b;
         vs.push(x);
     }
-    if r.pct(75) {
+    if r.percent(75) {
         // 0b, count, name (3 bytes), flag, 01, boolean, kind, ...
         let i = r.pick(&[6usize, 8, 9, 10, sb.len() - 1, sb.len() - 3]).min(sb.len() - 1);
         sb[i] = r.pick(&[0u8, 1, 2, 3, 4, 0xff]);
@@ -93,7 +93,7 @@ pub fn depth(r: &mut Rng) -> Case {
             let d = r.pick(&[15, 16, 16, 17]);
             let (mut s, mut v) = (INT, Value::Int(5));
             for _ in 1..d {
-                if r.pct(50) {
+                if r.percent(50) {
                     s = Schema::array(s);
                     v = Value::Array(vec![v]);
                 } else {
@@ -129,9 +129,9 @@ pub fn damaged(r: &mut Rng) -> Case {
     let d = r.range(1, 3);
     let h = How { wrong: 1, ..PLAIN };
     let s = schema(r, d, h);
-    if r.pct(30) {
+    if r.percent(30) {
         let v = many(r, &s, VALUES, h).iter().map(value_frame).collect::<Vec<_>>();
-        let v = v.into_iter().map(|b| if r.pct(85) { damage(r, b) } else { b }).collect();
+        let v = v.into_iter().map(|b| if r.percent(85) { damage(r, b) } else { b }).collect();
         (schema_frame(&s), v)
     } else {
         let v = many(r, &s, 3, h).iter().map(value_frame).collect();
@@ -221,7 +221,7 @@ pub fn schemafaults(r: &mut Rng) -> Case {
 
 /// A value of a given depth.
 fn deep_value(r: &mut Rng, depth: usize) -> Value {
-    let mut v = if r.pct(50) { Value::Null } else { Value::Int(int(r)) };
+    let mut v = if r.percent(50) { Value::Null } else { Value::Int(int(r)) };
     for _ in 1..depth {
         v = match r.below(4) {
             0 => Value::Array(vec![v]),

@@ -31,10 +31,10 @@ pub fn wide(r: &mut Rng) -> Case {
                         .filter(|i| i % 3 != 0 || i % 2 == 0)
                         .map(|i| (name(i), Value::Int(i as i32)))
                         .collect();
-                    if r.pct(50) {
+                    if r.percent(50) {
                         f.reverse();
                     }
-                    if r.pct(30) {
+                    if r.percent(30) {
                         f.remove(0);
                     }
                     Value::Record(f)
@@ -55,16 +55,16 @@ pub fn wide(r: &mut Rng) -> Case {
             let variants: Vec<Schema> = (0..n).map(|i| Schema::Enum(vec![format!("s{i}")], None)).collect();
             let mut u = built(variants).0;
             let led = pickn(r);
-            if r.pct(60) {
+            if r.percent(60) {
                 u.kinds = vec![(7, led as u16)];
             }
-            if r.pct(30) {
+            if r.percent(30) {
                 u.named.reverse();
             }
             let v = (0..8)
                 .map(|i| {
                     let t = format!("s{}", if i == 0 { led } else { pickn(r) });
-                    if i == 0 || r.pct(50) { Value::Str(t) } else { Value::Enum(0, t) }
+                    if i == 0 || r.percent(50) { Value::Str(t) } else { Value::Enum(0, t) }
                 })
                 .collect();
             (Schema::Union(u), v)
@@ -173,6 +173,47 @@ pub fn long(r: &mut Rng) -> Case {
     }
 }
 
+/// Unions of a Record that grows past 65,535 bytes in a trial and a Map that doesn't: the trial
+/// may fail at the end, lose against the kind table, or stand and give 18.
+pub fn trials(r: &mut Rng) -> Case {
+    let text = r.pick(&[50usize, 100, 300]);
+    let item = |fields| Schema::array(Schema::Record(fields));
+    let mut fields =
+        vec![Field::new("a", None, item(vec![Field::new("d", Some(Value::Str("z".repeat(text))), BYTES)]))];
+    if r.percent(40) {
+        fields.push(Field::new("b", None, INT));
+    }
+    let mut variants = vec![Schema::Record(fields), Schema::map(item(vec![]))];
+    if r.percent(50) {
+        variants.reverse();
+    }
+    if r.percent(30) {
+        variants.insert(0, NULL);
+    }
+    let mut u = built(variants).0;
+    match r.below(5) {
+        0 => u.kinds.clear(),
+        1 => u.named.clear(),
+        _ => {}
+    }
+    let wrapped = r.percent(40);
+    let s = if wrapped { Schema::array(Schema::Union(u)) } else { Schema::Union(u) };
+    let limit = 65_535 / (9 + text);
+    let one = |r: &mut Rng| {
+        let n = r.pick(&[0, 1, limit - 1, limit, limit + 1, 3 * limit]);
+        let mut items = vec![("a".to_string(), Value::Array(vec![Value::Record(vec![]); n]))];
+        match r.below(4) {
+            0 => items.push(("b".into(), Value::Array(vec![]))),
+            1 => items.push(("b".into(), Value::Int(7))),
+            _ => {}
+        }
+        if r.percent(50) { Value::Map(items) } else { Value::Record(items) }
+    };
+    let v: Vec<Value> =
+        (0..6).map(|_| if wrapped { Value::Array(vec![one(r), one(r)]) } else { one(r) }).collect();
+    case(&s, &v)
+}
+
 /// Defaults in union fields whose resolved form is around 4,096 bytes.
 pub fn longdefault(r: &mut Rng) -> Case {
     let aim = (4096 + r.pick(&[-6i64, -5, -4, -1, 0, 0, 0, 0, 1, 1, 1, 2, 4, 5, 6, 9])) as usize;
@@ -196,10 +237,10 @@ pub fn longdefault(r: &mut Rng) -> Case {
         _ => (Schema::Decimal(1, 0, None), Value::Str("ÿ".repeat(aim - 3))),
     };
     let mut variants = vec![first];
-    if r.pct(50) {
+    if r.percent(50) {
         variants.push(BOOLEAN);
     }
-    if r.pct(30) && variants[0] != STRING {
+    if r.percent(30) && variants[0] != STRING {
         variants.push(STRING);
     }
     let (u, _) = built(variants);

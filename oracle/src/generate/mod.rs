@@ -62,6 +62,7 @@ pub const FAMILIES: &[Family] = &[
     family("bytedefault", 5, resolution::bytedefault),
     family("wide", 4, lengths::wide),
     family("flags", 4, frames::flags),
+    family("trials", 3, lengths::trials),
 ];
 
 /// How many values most families make for a schema.
@@ -94,7 +95,7 @@ pub fn cases(seed: u64, count: usize) -> impl Iterator<Item = Given> {
         let f = pick_family(&mut r);
         let case = (f.make)(&mut r);
         total += case.1.len();
-        let rough = f.name != "long" && r.pct(3);
+        let rough = f.name != "long" && r.percent(3);
         let input = if rough { damage::rough(&mut r, &case) } else { input(&case) };
         Some(Given { family: f.name, case, input })
     })

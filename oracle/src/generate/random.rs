@@ -20,7 +20,7 @@ impl Rng {
     pub fn range(&mut self, a: usize, b: usize) -> usize {
         a + self.below(b - a + 1)
     }
-    pub fn pct(&mut self, p: usize) -> bool {
+    pub fn percent(&mut self, p: usize) -> bool {
         self.below(100) < p
     }
     pub fn pick<T: Clone>(&mut self, v: &[T]) -> T {

@@ -16,9 +16,10 @@ pub fn general(r: &mut Rng) -> Case {
 
 /// One kind of schema, every kind of value.
 pub fn kinds(r: &mut Rng) -> Case {
-    let s = if r.pct(80) { leaf(r) } else { schema(r, 2, PLAIN) };
-    let v =
-        (0..VALUES).map(|_| if r.pct(55) { any(r, 3) } else { value(r, &s, 4, PLAIN) }).collect::<Vec<_>>();
+    let s = if r.percent(80) { leaf(r) } else { schema(r, 2, PLAIN) };
+    let v = (0..VALUES)
+        .map(|_| if r.percent(55) { any(r, 3) } else { value(r, &s, 4, PLAIN) })
+        .collect::<Vec<_>>();
     case(&s, &v)
 }
 
@@ -52,9 +53,9 @@ pub fn both(r: &mut Rng) -> Case {
         }
     }
     let (mut u, _) = built(variants);
-    if r.pct(50) {
+    if r.percent(50) {
         odd_tables(r, &mut u);
-    } else if r.pct(40) {
+    } else if r.percent(40) {
         r.shuffle(&mut u.named);
     }
     let h = How { wrong: 3, wrap: 5, ..PLAIN };
@@ -102,7 +103,7 @@ pub fn narrow(r: &mut Rng) -> Case {
                 kinds: vec![(k, 1)],
                 named: vec![],
             };
-            if r.pct(50) && k < 8 {
+            if r.percent(50) && k < 8 {
                 u.kinds.push((8, r.pick(&[1u16, 2])));
             }
             Schema::Union(u)
@@ -111,7 +112,7 @@ pub fn narrow(r: &mut Rng) -> Case {
     };
     let one = |r: &mut Rng| {
         let v = match x {
-            Schema::Plain(2) => Value::Long(if r.pct(70) { long(r) } else { int(r) as i64 }),
+            Schema::Plain(2) => Value::Long(if r.percent(70) { long(r) } else { int(r) as i64 }),
             Schema::Plain(6) => {
                 let n = r.below(4);
                 Value::Array(
@@ -128,10 +129,10 @@ pub fn narrow(r: &mut Rng) -> Case {
             }
             _ => {
                 let b = utf8_or_not(r);
-                if r.pct(50) { Value::Fixed(b) } else { Value::Bytes(b) }
+                if r.percent(50) { Value::Fixed(b) } else { Value::Bytes(b) }
             }
         };
-        if r.pct(15) { Value::union(r.below(3) as u32, v) } else { v }
+        if r.percent(15) { Value::union(r.below(3) as u32, v) } else { v }
     };
     let v = (0..VALUES)
         .map(|_| match &s {
@@ -144,13 +145,13 @@ pub fn narrow(r: &mut Rng) -> Case {
                 map_of((0..n).map(|_| (key(r), one(r))).collect())
             }
             Schema::Record(_) => {
-                if r.pct(15) {
+                if r.percent(15) {
                     Value::Map(vec![])
                 } else {
                     Value::Record(vec![("a".into(), one(r))])
                 }
             }
-            Schema::Union(_) if r.pct(40) => Value::union(1, one(r)),
+            Schema::Union(_) if r.percent(40) => Value::union(1, one(r)),
             _ => one(r),
         })
         .collect::<Vec<_>>();
@@ -195,10 +196,10 @@ pub fn nan(r: &mut Rng) -> Case {
             Schema::Array(_) => Value::Array((0..4).map(|_| one(r)).collect()),
             Schema::Record(_) => {
                 let mut items = vec![];
-                if r.pct(60) {
+                if r.percent(60) {
                     items.push(("a".to_string(), one(r)));
                 }
-                if r.pct(60) {
+                if r.percent(60) {
                     items.push(("b".to_string(), one(r)));
                 }
                 items.push(("c".to_string(), Value::Array((0..3).map(|_| one(r)).collect())));
@@ -223,14 +224,15 @@ pub fn oddunions(r: &mut Rng) -> Case {
 fn unions_of(r: &mut Rng, h: How) -> Case {
     let d = r.range(2, 3);
     let mut s = union(r, d, h);
-    if r.pct(25) {
+    if r.percent(25) {
         s = match r.below(3) {
             0 => Schema::array(s),
             1 => Schema::map(s),
             _ => Schema::Record(vec![Field::new("a", None, s)]),
         };
     }
-    let v = (0..VALUES).map(|_| if r.pct(35) { any(r, 4) } else { value(r, &s, 8, h) }).collect::<Vec<_>>();
+    let v =
+        (0..VALUES).map(|_| if r.percent(35) { any(r, 4) } else { value(r, &s, 8, h) }).collect::<Vec<_>>();
     case(&s, &v)
 }
 
@@ -255,7 +257,7 @@ pub fn nested(r: &mut Rng) -> Case {
         variants.push(STRING);
     }
     let (mut u, _) = built(variants);
-    if r.pct(h.odd) {
+    if r.percent(h.odd) {
         odd_tables(r, &mut u);
     }
     let s = Schema::Union(u);
@@ -274,11 +276,11 @@ pub fn defaults(r: &mut Rng) -> Case {
             4 => record(r, 3, h),
             _ => schema(r, 3, h),
         };
-        let default = if r.pct(90) { Some(default_for(r, &schema, h)) } else { None };
+        let default = if r.percent(90) { Some(default_for(r, &schema, h)) } else { None };
         fields.push(Field::new(&format!("f{i}"), default, schema));
     }
     let mut s = Schema::Record(fields);
-    if r.pct(20) {
+    if r.percent(20) {
         s = Schema::array(s);
     }
     let v = many(r, &s, VALUES, h);
@@ -295,13 +297,13 @@ pub fn bytedefault(r: &mut Rng) -> Case {
             .into_iter()
             .enumerate()
     {
-        if r.pct(if i == 0 { 80 } else { 40 }) {
-            let d = if r.pct(80) {
+        if r.percent(if i == 0 { 80 } else { 40 }) {
+            let d = if r.percent(80) {
                 Value::Str(t.clone())
             } else {
                 Value::Array(t.bytes().map(|b| Value::Int(b as i32)).collect())
             };
-            let d = if r.pct(15) { Value::Array(vec![d]) } else { d };
+            let d = if r.percent(15) { Value::Array(vec![d]) } else { d };
             let schema = match r.below(3) {
                 0 => union_of(vec![x, NULL]),
                 _ => x,
@@ -330,7 +332,7 @@ pub fn enums(r: &mut Rng) -> Case {
     let s = match r.below(3) {
         0 => Schema::Record(vec![Field::new(
             "e",
-            if r.pct(70) {
+            if r.percent(70) {
                 Some(Value::Str(r.pick(&["A", "B", "unknown", "é"]).to_string()))
             } else {
                 Some(any_default(r, 2))
@@ -370,7 +372,7 @@ pub fn decimals(r: &mut Rng) -> Case {
                 _ => (need + 1).saturating_sub(r.below(3)),
             };
             let b = match r.below(4) {
-                0 => vec![if r.pct(50) { 0 } else { 0xff }; len],
+                0 => vec![if r.percent(50) { 0 } else { 0xff }; len],
                 1 => {
                     let mut b = vec![0; len];
                     if len > 0 {
@@ -438,15 +440,15 @@ pub fn names(r: &mut Rng) -> Case {
             let mut items = vec![];
             for f in &fields {
                 for _ in 0..r.range(1, 3) {
-                    let v = if r.pct(35) { any(r, 2) } else { value(r, &f.schema, 3, h) };
+                    let v = if r.percent(35) { any(r, 2) } else { value(r, &f.schema, 3, h) };
                     items.push((f.name.clone(), v));
                 }
                 items.push((f.name.clone(), value(r, &f.schema, 3, h)));
             }
-            if r.pct(40) {
+            if r.percent(40) {
                 r.shuffle(&mut items);
             }
-            if r.pct(25) { map_of(items) } else { Value::Record(items) }
+            if r.percent(25) { map_of(items) } else { Value::Record(items) }
         })
         .collect::<Vec<_>>();
     case(&s, &v)
@@ -463,7 +465,7 @@ pub fn order(r: &mut Rng) -> Case {
             2 => enumeration(r),
             _ => leaf(r),
         };
-        let default = if r.pct(30) { Some(any_default(r, 2)) } else { None };
+        let default = if r.percent(30) { Some(any_default(r, 2)) } else { None };
         fields.push(Field::new(&format!("f{i}"), default, schema));
     }
     let s = Schema::Record(fields.clone());
@@ -471,7 +473,7 @@ pub fn order(r: &mut Rng) -> Case {
         .map(|_| {
             let mut items: Vec<(String, Value)> =
                 fields.iter().map(|f| (f.name.clone(), value(r, &f.schema, 4, h))).collect();
-            if r.pct(30) {
+            if r.percent(30) {
                 items.remove(r.below(items.len()));
             }
             r.shuffle(&mut items);
@@ -513,7 +515,7 @@ pub fn maps(r: &mut Rng) -> Case {
     let entries = |r: &mut Rng, s: &Schema| {
         let n = r.range(1, 5);
         let one = |r: &mut Rng| {
-            let h = if r.pct(50) { bad } else { h };
+            let h = if r.percent(50) { bad } else { h };
             value(r, s, 5, h)
         };
         map_of((0..n).map(|_| (key(r), one(r))).collect())
@@ -546,7 +548,7 @@ pub fn maps(r: &mut Rng) -> Case {
                 Value::Array((0..n).map(|_| entries(r, &x)).collect())
             }
             3 | 4 => {
-                if r.pct(40) {
+                if r.percent(40) {
                     Value::Record(vec![])
                 } else {
                     Value::Record(vec![("zzz".into(), entries(r, &x))])

@@ -28,7 +28,7 @@ pub fn float_trap(r: &mut Rng, bits: u32) -> i64 {
     let k = 1 + r.below((bits - p).max(1) as usize) as u32;
     let k = k.min(bits - p).max(1);
     let m = (1u64 << (p - 1)) | (r.u64() & ((1u64 << (p - 1)) - 1));
-    let m = if r.pct(20) { (1u64 << p) - 1 } else { m };
+    let m = if r.percent(20) { (1u64 << p) - 1 } else { m };
     let x = (m << k) | (1u64 << (k - 1));
     let x = match r.below(5) {
         0 => x - 1,
@@ -37,7 +37,7 @@ pub fn float_trap(r: &mut Rng, bits: u32) -> i64 {
         _ => x,
     };
     let x = (x & ((1u64 << bits) - 1)) as i64;
-    if r.pct(40) { -x } else { x }
+    if r.percent(40) { -x } else { x }
 }
 
 pub fn long(r: &mut Rng) -> i64 {
@@ -70,7 +70,7 @@ pub fn long(r: &mut Rng) -> i64 {
             let x =
                 (m << (k - 1)).wrapping_add(1i64 << (k - 2)).wrapping_add(r.pick(&[-1i64, 0, 1, 2, -2, 3]));
             let x = x & i64::MAX;
-            if r.pct(40) { -x } else { x }
+            if r.percent(40) { -x } else { x }
         }
         5 | 6 => float_trap(r, 63),
         _ => r.u64() as i64 >> r.below(63),
@@ -149,15 +149,15 @@ pub fn finite_double(r: &mut Rng) -> u64 {
                 (f32::MAX as f64).to_bits(),
                 2f64.powi(128).to_bits(),
             ]));
-            if r.pct(50) { -x } else { x }
+            if r.percent(50) { -x } else { x }
         }
         // around the middle of two floats, subnormal ones too
         3..=5 => {
             let mut b = r.u64() as u32 & 0x7fff_ffff;
-            if r.pct(40) {
+            if r.percent(40) {
                 b &= 0x00ff_ffff;
             }
-            if r.pct(15) {
+            if r.percent(15) {
                 b = r.pick(&[0, 1, 2, 0x007f_fffe, 0x007f_ffff, 0x0080_0000, 0x7f7f_fffe]);
             }
             if b >= 0x7f7f_ffff {
@@ -168,7 +168,7 @@ pub fn finite_double(r: &mut Rng) -> u64 {
             let mid = (lo + hi) / 2.0;
             let m = mid.to_bits();
             let x = f64::from_bits(r.pick(&[m, m, m + 1, m - 1, lo.to_bits(), m + 5]));
-            if r.pct(50) { -x } else { x }
+            if r.percent(50) { -x } else { x }
         }
         6 => r.below(100_000) as f64 / 16.0,
         _ => f64::from_bits(r.u64()),
@@ -236,7 +236,7 @@ pub fn uuid_text(r: &mut Rng) -> String {
     match r.below(4) {
         0 => h = h.to_uppercase(),
         1 => {
-            h = h.chars().map(|c| if r.pct(50) { c.to_ascii_uppercase() } else { c }).collect();
+            h = h.chars().map(|c| if r.percent(50) { c.to_ascii_uppercase() } else { c }).collect();
         }
         _ => {}
     }
@@ -247,7 +247,7 @@ pub fn uuid_text(r: &mut Rng) -> String {
         2 => format!("urn:uuid:{hy}"),
         _ => hy,
     };
-    if r.pct(40) {
+    if r.percent(40) {
         t = damage_text(r, &t);
     }
     t

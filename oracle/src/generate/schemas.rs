@@ -43,7 +43,7 @@ pub fn enumeration(r: &mut Rng) -> Schema {
     let mut s: Vec<String> = ["A", "B", "C", "D", "é", "red", ""].iter().map(|s| s.to_string()).collect();
     r.shuffle(&mut s);
     s.truncate(r.below(5));
-    if r.pct(8) && !s.is_empty() {
+    if r.percent(8) && !s.is_empty() {
         s.push(s[0].clone());
     }
     let d = match r.below(4) {
@@ -132,13 +132,13 @@ pub fn odd_tables(r: &mut Rng, u: &mut Union) {
             let mut k: Vec<u8> = u.kinds.iter().map(|e| e.0).collect();
             for i in 0..u.variants.len() {
                 let (b, named) = base_kind(&u.variants[i]);
-                if named && r.pct(70) {
+                if named && r.percent(70) {
                     let add = match b {
                         0x0b => 9,
                         0x0d => r.pick(&[6u8, 7]),
                         _ => r.pick(&[7u8, 2, 0x0a]),
                     };
-                    if !k.contains(&add) || r.pct(50) {
+                    if !k.contains(&add) || r.percent(50) {
                         k.push(add);
                         u.kinds.retain(|e| e.0 != add);
                         u.kinds.push((add, i as u16));
@@ -146,24 +146,24 @@ pub fn odd_tables(r: &mut Rng, u: &mut Union) {
                 }
             }
             u.kinds.sort();
-            if r.pct(50) {
+            if r.percent(50) {
                 r.shuffle(&mut u.named);
             }
         }
         // some of the right ones gone
         0 => {
             u.kinds.retain(|_| true);
-            if !u.kinds.is_empty() && r.pct(70) {
+            if !u.kinds.is_empty() && r.percent(70) {
                 u.kinds.remove(r.below(u.kinds.len()));
             }
-            if !u.named.is_empty() && r.pct(50) {
+            if !u.named.is_empty() && r.percent(50) {
                 u.named.remove(r.below(u.named.len()));
             }
         }
         // some led elsewhere
         1 => {
             for e in u.kinds.iter_mut() {
-                if r.pct(40) {
+                if r.percent(40) {
                     e.1 = (r.u64() % n) as u16;
                 }
             }
@@ -173,7 +173,7 @@ pub fn odd_tables(r: &mut Rng, u: &mut Union) {
         2 => {
             let mut k: Vec<u8> = vec![];
             for _ in 0..r.below(8) {
-                let x = if r.pct(70) {
+                let x = if r.percent(70) {
                     r.pick(&[0u8, 1, 2, 3, 4, 5, 6, 7, 8, 9, 0x0a])
                 } else {
                     r.below(0x1a) as u8
@@ -188,10 +188,10 @@ pub fn odd_tables(r: &mut Rng, u: &mut Union) {
         // named list over everything, kinds empty or one
         _ => {
             u.named = (0..n as u16).collect();
-            if r.pct(50) {
+            if r.percent(50) {
                 u.named.reverse();
             }
-            if r.pct(50) {
+            if r.percent(50) {
                 u.kinds = vec![(r.pick(&[2u8, 6, 7, 8, 9, 0x0a, 0x0b]), (r.u64() % n) as u16)];
             }
         }
@@ -211,11 +211,11 @@ pub fn union(r: &mut Rng, d: usize, h: How) -> Schema {
         let mut v = vec![x.clone(), x];
         v[null] = NULL;
         let (mut u, _) = built(v);
-        if r.pct(h.odd) {
+        if r.percent(h.odd) {
             // still a nullable pair
             u.kinds = vec![(0, null as u16)];
             for k in 1..=0x19u8 {
-                if r.pct(20) {
+                if r.percent(20) {
                     u.kinds.push((k, other));
                 }
             }
@@ -233,7 +233,7 @@ pub fn union(r: &mut Rng, d: usize, h: How) -> Schema {
             };
             let mut all = variants.clone();
             all.push(x.clone());
-            if built(all).1 || r.pct(10) {
+            if built(all).1 || r.percent(10) {
                 variants.push(x);
                 break;
             }
@@ -242,12 +242,12 @@ pub fn union(r: &mut Rng, d: usize, h: How) -> Schema {
     if variants.is_empty() {
         variants.push(LONG);
     }
-    if r.pct(25) {
+    if r.percent(25) {
         variants.retain(|v| *v != NULL);
         variants.insert(0, NULL);
     }
     let (mut u, _) = built(variants);
-    if r.pct(h.odd) {
+    if r.percent(h.odd) {
         odd_tables(r, &mut u);
     }
     Schema::Union(u)
@@ -264,7 +264,7 @@ pub fn record(r: &mut Rng, d: usize, h: How) -> Schema {
             .into_iter()
             .map(|name| {
                 let schema = schema(r, d - 1, h);
-                let default = if r.pct(h.default) { Some(default_for(r, &schema, h)) } else { None };
+                let default = if r.percent(h.default) { Some(default_for(r, &schema, h)) } else { None };
                 Field::new(&name, default, schema)
             })
             .collect(),
@@ -285,12 +285,12 @@ pub fn schema(r: &mut Rng, d: usize, h: How) -> Schema {
 }
 
 pub fn default_for(r: &mut Rng, s: &Schema, h: How) -> Value {
-    if r.pct(15) {
+    if r.percent(15) {
         return any_default(r, 3);
     }
     let d = match s {
         Schema::Union(u) => {
-            let first = &u.variants[if r.pct(85) { 0 } else { r.below(u.variants.len()) }];
+            let first = &u.variants[if r.percent(85) { 0 } else { r.below(u.variants.len()) }];
             value(r, first, 4, How { wrong: 1, wrap: 0, ..h })
         }
         s => value(r, s, 4, How { wrong: 1, wrap: 0, ..h }),
@@ -330,8 +330,8 @@ pub fn jsonable(r: &mut Rng, v: Value) -> Value {
         Value::Union(_, v) => jsonable(r, *v),
         Value::Enum(_, s) => Value::Str(s),
         Value::Uuid(b) => Value::Str(hex(&b)),
-        Value::T32(_, n) => Value::Int(n),
-        Value::T64(_, n) => i32::try_from(n).map_or(Value::Long(n), Value::Int),
+        Value::Time32(_, n) => Value::Int(n),
+        Value::Time64(_, n) => i32::try_from(n).map_or(Value::Long(n), Value::Int),
         Value::Duration(_) => Value::text("P"),
     }
 }
