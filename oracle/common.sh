@@ -42,13 +42,13 @@ build_crate() {
 # that one is taken.
 build_program() {
   [ -n "${RESOLVE:-}" ] || run_rt check resolve
-  RESOLVE=${RESOLVE:-$root/target/bin/resolve}
+  RESOLVE=$(realpath "${RESOLVE:-$root/target/bin/resolve}")
   [ -x "$RESOLVE" ] || stop "no program $RESOLVE"
 }
 
 build_archive() {
   [ -n "${HULMBAX_ARCHIVE:-}" ] || run_rt staticlib hulmbax
-  HULMBAX_ARCHIVE=${HULMBAX_ARCHIVE:-$root/target/staticlib/libhulmbax.a}
+  HULMBAX_ARCHIVE=$(realpath "${HULMBAX_ARCHIVE:-$root/target/staticlib/libhulmbax.a}")
   export HULMBAX_ARCHIVE
   [ -e "$HULMBAX_ARCHIVE" ] || stop "no archive $HULMBAX_ARCHIVE"
 }

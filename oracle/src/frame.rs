@@ -509,7 +509,7 @@ pub fn hex(b: &[u8]) -> String {
 
 /// `None`: the line isn't whole byte pairs.
 pub fn unhex(line: &[u8]) -> Option<Vec<u8>> {
-    if line.len() % 2 != 0 {
+    if !line.len().is_multiple_of(2) {
         return None;
     }
     let d = |c: u8| (c as char).to_digit(16).map(|x| x as u8);

@@ -9,66 +9,17 @@ use crate::frame::{BOOLEAN, BYTES, Field, INT, LONG, NULL, STRING, Schema, Value
 /// Counts, lengths, positions and indexes past 255.
 pub fn wide(r: &mut Rng) -> Case {
     let n = r.range(256, 700);
-    let pickn = |r: &mut Rng| r.pick(&[0, 1, 254, 255, 256, 257]).min(n - 1);
     let (s, v): (Schema, Vec<Value>) = match r.below(6) {
-        // names alike but for the last digits
-        0 => {
-            let name = |i: usize| format!("field-number-{i:05}");
-            let s = Schema::Record(
-                (0..n)
-                    .map(|i| {
-                        Field::new(
-                            &name(i),
-                            (i % 3 == 0).then(|| Value::Int(i as i32)),
-                            Schema::Plain(r.pick(&[2u8, 3, 5])),
-                        )
-                    })
-                    .collect(),
-            );
-            let v = (0..2)
-                .map(|_| {
-                    let mut f: Vec<(String, Value)> = (0..n)
-                        .filter(|i| i % 3 != 0 || i % 2 == 0)
-                        .map(|i| (name(i), Value::Int(i as i32)))
-                        .collect();
-                    if r.percent(50) {
-                        f.reverse();
-                    }
-                    if r.percent(30) {
-                        f.remove(0);
-                    }
-                    Value::Record(f)
-                })
-                .collect();
-            (s, v)
-        }
+        0 => wide_record(r, n),
         1 => {
             let symbols: Vec<String> = (0..n).map(|i| format!("s{i}")).collect();
             let v = (0..6)
-                .map(|_| Value::Str(symbols[pickn(r)].clone()))
+                .map(|_| Value::Str(symbols[edge(r, n)].clone()))
                 .chain([Value::Enum(0, "none".into())])
                 .collect();
-            (Schema::Enum(symbols, Some(format!("s{}", pickn(r)))), v)
+            (Schema::Enum(symbols, Some(format!("s{}", edge(r, n)))), v)
         }
-        2 => {
-            // many enums, each with its own symbol
-            let variants: Vec<Schema> = (0..n).map(|i| Schema::Enum(vec![format!("s{i}")], None)).collect();
-            let mut u = built(variants).0;
-            let led = pickn(r);
-            if r.percent(60) {
-                u.kinds = vec![(7, led as u16)];
-            }
-            if r.percent(30) {
-                u.named.reverse();
-            }
-            let v = (0..8)
-                .map(|i| {
-                    let t = format!("s{}", if i == 0 { led } else { pickn(r) });
-                    if i == 0 || r.percent(50) { Value::Str(t) } else { Value::Enum(0, t) }
-                })
-                .collect();
-            (Schema::Union(u), v)
-        }
+        2 => wide_union(r, n),
         3 => {
             let s = Schema::map(LONG);
             let v = (0..2)
@@ -95,6 +46,63 @@ pub fn wide(r: &mut Rng) -> Case {
         }
     };
     case(&s, &v)
+}
+
+/// A place at an edge of one byte.
+fn edge(r: &mut Rng, n: usize) -> usize {
+    r.pick(&[0, 1, 254, 255, 256, 257]).min(n - 1)
+}
+
+/// Many fields, with names alike but for the last digits.
+fn wide_record(r: &mut Rng, n: usize) -> (Schema, Vec<Value>) {
+    let name = |i: usize| format!("field-number-{i:05}");
+    let s = Schema::Record(
+        (0..n)
+            .map(|i| {
+                Field::new(
+                    &name(i),
+                    (i % 3 == 0).then_some(Value::Int(i as i32)),
+                    Schema::Plain(r.pick(&[2u8, 3, 5])),
+                )
+            })
+            .collect(),
+    );
+    let v = (0..2)
+        .map(|_| {
+            let mut f: Vec<(String, Value)> = (0..n)
+                .filter(|i| i % 3 != 0 || i % 2 == 0)
+                .map(|i| (name(i), Value::Int(i as i32)))
+                .collect();
+            if r.percent(50) {
+                f.reverse();
+            }
+            if r.percent(30) {
+                f.remove(0);
+            }
+            Value::Record(f)
+        })
+        .collect();
+    (s, v)
+}
+
+/// Many enums, each with its own symbol.
+fn wide_union(r: &mut Rng, n: usize) -> (Schema, Vec<Value>) {
+    let variants: Vec<Schema> = (0..n).map(|i| Schema::Enum(vec![format!("s{i}")], None)).collect();
+    let mut u = built(variants).0;
+    let led = edge(r, n);
+    if r.percent(60) {
+        u.kinds = vec![(7, led as u16)];
+    }
+    if r.percent(30) {
+        u.named.reverse();
+    }
+    let v = (0..8)
+        .map(|i| {
+            let t = format!("s{}", if i == 0 { led } else { edge(r, n) });
+            if i == 0 || r.percent(50) { Value::Str(t) } else { Value::Enum(0, t) }
+        })
+        .collect();
+    (Schema::Union(u), v)
 }
 
 /// Results and frames around 65,535 bytes.

@@ -2,6 +2,7 @@
 use super::random::Rng;
 use crate::frame::hex;
 
+/// Ints at the edges of a byte, of Int and of what Float holds.
 pub fn int(r: &mut Rng) -> i32 {
     match r.below(6) {
         0 => r.pick(&[0, 1, -1, 127, 128, 255, 256, -128, -129]),
@@ -40,6 +41,7 @@ pub fn float_trap(r: &mut Rng, bits: u32) -> i64 {
     if r.percent(40) { -x } else { x }
 }
 
+/// Longs at the edges of Int, of Long and of what Float and Double hold.
 pub fn long(r: &mut Rng) -> i64 {
     match r.below(8) {
         0 => int(r) as i64,
@@ -77,6 +79,7 @@ pub fn long(r: &mut Rng) -> i64 {
     }
 }
 
+/// The bits of a Float.
 pub fn float(r: &mut Rng) -> u32 {
     match r.below(7) {
         0 => r.pick(&[
@@ -176,6 +179,7 @@ pub fn finite_double(r: &mut Rng) -> u64 {
     if x.is_finite() { x.to_bits() } else { 1.5f64.to_bits() }
 }
 
+/// The bits of a Double.
 pub fn double(r: &mut Rng) -> u64 {
     match r.below(6) {
         0 => double_nan(r),
@@ -215,6 +219,7 @@ pub const WORDS: &[&str] = &[
     "x y z",
 ];
 
+/// A text: a word of the list, letters, code points around a byte, or a UUID.
 pub fn text(r: &mut Rng) -> String {
     match r.below(6) {
         0..=2 => r.pick(WORDS).to_string(),
@@ -230,6 +235,7 @@ pub fn text(r: &mut Rng) -> String {
     }
 }
 
+/// UUID text in one of its forms, at times damaged.
 pub fn uuid_text(r: &mut Rng) -> String {
     let b = r.bytes(16);
     let mut h = hex(&b);
@@ -284,6 +290,7 @@ pub fn near_uuid(r: &mut Rng) -> String {
     }
 }
 
+/// A text with one thing wrong.
 pub fn damage_text(r: &mut Rng, t: &str) -> String {
     let mut c: Vec<char> = t.chars().collect();
     let n = c.len();
@@ -314,6 +321,7 @@ pub fn damage_text(r: &mut Rng, t: &str) -> String {
     c.into_iter().collect()
 }
 
+/// A key; their order by bytes differs from that by UTF-16.
 pub fn key(r: &mut Rng) -> String {
     r.pick(&[
         "a",
@@ -335,6 +343,7 @@ pub fn key(r: &mut Rng) -> String {
     .to_string()
 }
 
+/// Bytes that are UTF-8, or nearly.
 pub fn utf8_or_not(r: &mut Rng) -> Vec<u8> {
     match r.below(3) {
         0 => r.pick(&[

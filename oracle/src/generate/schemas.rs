@@ -20,12 +20,14 @@ pub struct How {
 
 pub const PLAIN: How = How { wrong: 2, wrap: 8, odd: 30, default: 35, pairs: false };
 
+/// A kind whose schema has no content; the numeric and textual ones more often.
 pub fn plain_kind(r: &mut Rng) -> u8 {
     r.pick(&[
         0u8, 1, 2, 2, 3, 3, 4, 4, 5, 5, 6, 6, 7, 7, 0x10, 0x11, 0x12, 0x13, 0x14, 0x15, 0x16, 0x17, 0x18,
     ])
 }
 
+/// A schema without children.
 pub fn leaf(r: &mut Rng) -> Schema {
     match r.below(24) {
         0..=12 => Schema::Plain(plain_kind(r)),
@@ -39,6 +41,7 @@ pub fn leaf(r: &mut Rng) -> Schema {
     }
 }
 
+/// An Enum with few symbols, at times one twice, and a default that may be none of them.
 pub fn enumeration(r: &mut Rng) -> Schema {
     let mut s: Vec<String> = ["A", "B", "C", "D", "é", "red", ""].iter().map(|s| s.to_string()).collect();
     r.shuffle(&mut s);
@@ -63,6 +66,7 @@ pub fn max_prec(len: usize) -> u32 {
     }
 }
 
+/// A Decimal whose precision is near what a length can hold.
 pub fn decimal(r: &mut Rng) -> Schema {
     let len = r.pick(&[0usize, 1, 1, 2, 3, 4, 8, 16, 127, 128, 129, 200]);
     let p = match max_prec(len) {
@@ -82,6 +86,7 @@ pub fn decimal(r: &mut Rng) -> Schema {
     Schema::Decimal(p, scale, size)
 }
 
+/// The kind that stands for a schema in the builder's tables, and whether it is a named one.
 pub fn base_kind(s: &Schema) -> (u8, bool) {
     match s {
         Schema::Plain(0x10 | 0x11) => (2, false),
@@ -152,7 +157,6 @@ pub fn odd_tables(r: &mut Rng, u: &mut Union) {
         }
         // some of the right ones gone
         0 => {
-            u.kinds.retain(|_| true);
             if !u.kinds.is_empty() && r.percent(70) {
                 u.kinds.remove(r.below(u.kinds.len()));
             }
@@ -198,30 +202,35 @@ pub fn odd_tables(r: &mut Rng, u: &mut Union) {
     }
 }
 
+/// A union of Null and another, with the builder's tables or others that leave it a nullable pair.
+fn nullable_pair(r: &mut Rng, d: usize, h: How) -> Schema {
+    let x = loop {
+        let x = schema(r, d - 1, h);
+        if !matches!(x, Schema::Union(_) | NULL) {
+            break x;
+        }
+    };
+    let null = r.below(2);
+    let other = 1 - null as u16;
+    let mut v = vec![x.clone(), x];
+    v[null] = NULL;
+    let (mut u, _) = built(v);
+    if r.percent(h.odd) {
+        u.kinds = vec![(0, null as u16)];
+        for k in 1..=0x19u8 {
+            if r.percent(20) {
+                u.kinds.push((k, other));
+            }
+        }
+        u.named = (0..r.below(4)).map(|_| r.below(2) as u16).collect();
+    }
+    Schema::Union(u)
+}
+
+/// A union of one to six variants, or a nullable pair.
 pub fn union(r: &mut Rng, d: usize, h: How) -> Schema {
     if h.pairs {
-        let x = loop {
-            let x = schema(r, d - 1, h);
-            if !matches!(x, Schema::Union(_) | NULL) {
-                break x;
-            }
-        };
-        let null = r.below(2);
-        let other = 1 - null as u16;
-        let mut v = vec![x.clone(), x];
-        v[null] = NULL;
-        let (mut u, _) = built(v);
-        if r.percent(h.odd) {
-            // still a nullable pair
-            u.kinds = vec![(0, null as u16)];
-            for k in 1..=0x19u8 {
-                if r.percent(20) {
-                    u.kinds.push((k, other));
-                }
-            }
-            u.named = (0..r.below(4)).map(|_| r.below(2) as u16).collect();
-        }
-        return Schema::Union(u);
+        return nullable_pair(r, d, h);
     }
     let n = r.pick(&[1, 2, 2, 3, 3, 4, 5, 6]);
     let mut variants: Vec<Schema> = vec![];
@@ -255,6 +264,7 @@ pub fn union(r: &mut Rng, d: usize, h: How) -> Schema {
 
 pub const NAMES: &[&str] = &["a", "b", "c", "sail", "seq", "k1", "k2", "é", "", "z", "finish", "boat"];
 
+/// A record of up to five fields.
 pub fn record(r: &mut Rng, d: usize, h: How) -> Schema {
     let mut names: Vec<String> = NAMES.iter().map(|s| s.to_string()).collect();
     r.shuffle(&mut names);
@@ -271,6 +281,7 @@ pub fn record(r: &mut Rng, d: usize, h: How) -> Schema {
     )
 }
 
+/// A schema of at most `d` levels.
 pub fn schema(r: &mut Rng, d: usize, h: How) -> Schema {
     if d <= 1 {
         return leaf(r);
@@ -284,6 +295,7 @@ pub fn schema(r: &mut Rng, d: usize, h: How) -> Schema {
     }
 }
 
+/// A default that mostly suits the schema.
 pub fn default_for(r: &mut Rng, s: &Schema, h: How) -> Value {
     if r.percent(15) {
         return any_default(r, 3);
