@@ -1,0 +1,112 @@
+//! Copies the source of apache-avro from the folder $AVRO_SOURCE to OUT_DIR, beside the shims, and
+//! appends to two of them. Nothing in a given file is changed or removed:
+//! the patches only add lines at the end, and this script checks that each made file begins
+//! with the given text, byte for byte.
+//!
+//! P1 (src/schema/union.rs): accessor and setter for `variant_index` and `named_index`, which
+//!    document 01 calls for.
+//! P2 (src/types.rs): a public wrapper over the private `max_prec_for_len`, for the table test.
+use std::{env, fs, path::Path, path::PathBuf};
+
+const P1: &str = r#"
+// ---- added for the oracle (patch P1) ----
+impl UnionSchema {
+    /// The tables as they stand.
+    pub fn oracle_tables(&self) -> (&BTreeMap<SchemaKind, usize>, &[usize]) {
+        (&self.variant_index, &self.named_index)
+    }
+    /// A union with these variants and tables; the positions must be below the variant count.
+    pub fn oracle_with_tables(
+        schemas: Vec<Schema>,
+        variant_index: BTreeMap<SchemaKind, usize>,
+        named_index: Vec<usize>,
+    ) -> Self {
+        Self {
+            schemas,
+            variant_index,
+            named_index,
+        }
+    }
+}
+"#;
+
+const P2: &str = r#"
+// ---- added for the oracle (patch P2) ----
+pub fn oracle_max_prec_for_len(len: usize) -> Result<usize, Error> {
+    max_prec_for_len(len)
+}
+"#;
+
+/// (path under src, text to append)
+const GIVEN: &[(&str, &str)] = &[
+    ("types.rs", P2),
+    ("decimal.rs", ""),
+    ("duration.rs", ""),
+    ("bigdecimal.rs", ""),
+    ("schema/mod.rs", ""),
+    ("schema/name.rs", ""),
+    ("schema/union.rs", P1),
+    ("schema/record/field.rs", ""),
+    ("schema/record/schema.rs", ""),
+];
+
+const SHIMS: &[&str] = &[
+    "lib.rs",
+    "error.rs",
+    "decode.rs",
+    "encode.rs",
+    "util.rs",
+    "validator.rs",
+    "schema_equality.rs",
+    "schema/builders.rs",
+    "schema/parser.rs",
+    "schema/resolve.rs",
+    "schema/record/mod.rs",
+];
+
+fn find(dir: &Path, rel: &str) -> PathBuf {
+    let flat = format!("src--src--{}.txt", rel.replace('/', "--"));
+    let txt = format!("{rel}.txt");
+    let tries = [
+        dir.join(&flat),
+        dir.join("src").join(rel),
+        dir.join("src").join(&txt),
+        dir.join(rel),
+        dir.join(&txt),
+    ];
+    for t in &tries {
+        if t.is_file() {
+            return t.clone();
+        }
+    }
+    panic!("{rel} is in none of the places {tries:?}; AVRO_SOURCE is the folder of the crate's source");
+}
+
+fn main() {
+    println!("cargo:rerun-if-env-changed=AVRO_SOURCE");
+    println!("cargo:rerun-if-changed=build.rs");
+    println!("cargo:rerun-if-changed=shim");
+    let source =
+        PathBuf::from(env::var("AVRO_SOURCE").expect("AVRO_SOURCE is the folder of the crate's source"));
+    let out = PathBuf::from(env::var("OUT_DIR").unwrap()).join("avro");
+    fs::create_dir_all(out.join("schema/record")).unwrap();
+    for rel in SHIMS {
+        fs::copy(Path::new("shim").join(rel), out.join(rel)).unwrap();
+    }
+    let mut report = String::new();
+    for (rel, add) in GIVEN {
+        let from = find(&source, rel);
+        println!("cargo:rerun-if-changed={}", from.display());
+        let text = fs::read_to_string(&from).unwrap();
+        let made = format!("{text}{add}");
+        fs::write(out.join(rel), &made).unwrap();
+        let back = fs::read_to_string(out.join(rel)).unwrap();
+        assert!(back.starts_with(&text) && &back[text.len()..] == *add);
+        report.push_str(&format!(
+            "src/{rel}: {} lines verbatim, {} lines added\n",
+            text.lines().count(),
+            add.lines().count()
+        ));
+    }
+    fs::write(out.join("SOURCES.txt"), report).unwrap();
+}

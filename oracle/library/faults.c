@@ -1,0 +1,41 @@
+/* An entry with one fault (-DFAULT=1 to 11) around the true one, to see that the comparison and valgrind find it. */
+#include <stddef.h>
+#include <stdint.h>
+
+#define WORKSPACE 65536
+
+int32_t true_resolve(const uint8_t *schema, size_t schema_len, const uint8_t *record, size_t record_len,
+                     uint8_t *result, size_t result_len, uint8_t *workspace, size_t workspace_len);
+
+volatile uint8_t read_byte;
+
+int32_t hulmbax_resolve(const uint8_t *schema, size_t schema_len, const uint8_t *record, size_t record_len,
+                        uint8_t *result, size_t result_len, uint8_t *workspace, size_t workspace_len)
+{
+    int32_t n = true_resolve(schema, schema_len, record, record_len, result, result_len, workspace, workspace_len);
+    int accepted = n > 0;
+#if FAULT == 1 /* changes a byte of the buffer past the result */
+    if (accepted && (size_t)n < result_len) result[n] ^= 1;
+#elif FAULT == 2 /* changes a byte past the buffer */
+    if (accepted) result[result_len] ^= 1;
+#elif FAULT == 3 /* a wrong last byte */
+    if (accepted) result[n - 1] ^= 1;
+#elif FAULT == 4 /* changes the buffer on a refusal */
+    if (n < 0 && result_len) result[result_len - 1] ^= 1;
+#elif FAULT == 5 /* 18 though the result just fits */
+    if (accepted && (size_t)n == result_len) return -18;
+#elif FAULT == 6 /* leaves a workspace byte */
+    if (n != -1) workspace[WORKSPACE - 1] = 1;
+#elif FAULT == 7 /* changes the workspace past 65,536 bytes */
+    if (n != -1 && workspace_len > WORKSPACE) workspace[WORKSPACE] ^= 1;
+#elif FAULT == 8 /* changes the workspace after 1 */
+    if (n == -1 && workspace_len) workspace[0] ^= 1;
+#elif FAULT == 9 /* changes the record */
+    if (accepted) ((uint8_t *)record)[0] ^= 1;
+#elif FAULT == 10 /* a length other than what was written */
+    if (accepted) return n + 1;
+#elif FAULT == 11 /* reads past the record: only valgrind sees it */
+    read_byte = record[record_len];
+#endif
+    return n;
+}

@@ -1,0 +1,32 @@
+//! Program `library`: the C entry of libhulmbax.a beside the crate. See README.md.
+mod buffers;
+mod compare;
+mod entry;
+mod memory;
+
+use std::path::Path;
+use std::process::ExitCode;
+
+const USAGE: &str = "\
+library compare N SEED DIR    about N values, each with several buffers and workspaces
+library memory N SEED         N damaged frames, each block just as long as its slice; for valgrind";
+
+fn main() -> ExitCode {
+    let words: Vec<String> = std::env::args().skip(1).collect();
+    let words: Vec<&str> = words.iter().map(|s| s.as_str()).collect();
+    let right = match words.as_slice() {
+        ["compare", n, seed, dir] => compare::compare(number(n) as usize, number(seed), Path::new(dir)),
+        ["memory", n, seed] => memory::memory(number(n) as usize, number(seed)),
+        _ => usage(),
+    };
+    if right { ExitCode::SUCCESS } else { ExitCode::FAILURE }
+}
+
+fn usage() -> ! {
+    eprintln!("{USAGE}");
+    std::process::exit(2)
+}
+
+fn number(word: &str) -> u64 {
+    word.parse().unwrap_or_else(|_| usage())
+}

@@ -1,0 +1,128 @@
+//! Demand 3 on the running program: alike pairs get equal answers, and accepted results fit and
+//! repeat. The crate is run beside it.
+use crate::answer;
+use crate::compare::{differences, run};
+use crate::frame::{self, Schema, Value, hex, schema_frame, value_frame};
+use crate::generate::{Alike, Case, alike_cases, input};
+use crate::meet::{fits, string_meets_fixed_or_decimal, trimmed};
+use std::fs;
+use std::path::Path;
+
+/// After this many lines that differ from the crate's the run ends.
+const TOO_MANY: usize = 100;
+
+/// The program, and what was counted.
+struct Run<'a> {
+    program: &'a Path,
+    dir: &'a Path,
+    pairs: usize,
+    /// Pairs of which 5 stops one, or whose schema is refused.
+    left_out: usize,
+    unequal: usize,
+    /// Results of values in which no String meets a Fixed or Decimal.
+    plain: Results,
+    /// The other results.
+    with_strings: Results,
+    /// Lines that are not the crate's.
+    differ: usize,
+}
+
+#[derive(Default)]
+struct Results {
+    all: usize,
+    unfit: usize,
+    changed: usize,
+}
+
+/// Runs until there are `n` pairs and `n` repeats.
+pub fn demand3(n: usize, seed: u64, program: &Path, dir: &Path) -> bool {
+    fs::create_dir_all(dir).unwrap();
+    let mut run = Run {
+        program,
+        dir,
+        pairs: 0,
+        left_out: 0,
+        unequal: 0,
+        plain: Results::default(),
+        with_strings: Results::default(),
+        differ: 0,
+    };
+    let mut cases = alike_cases(seed);
+    while (run.pairs < n || run.plain.all < n) && run.differ < TOO_MANY {
+        run.case(&cases.next().unwrap());
+    }
+    run.print();
+    run.unequal + run.plain.unfit + run.plain.changed + run.differ == 0
+}
+
+impl Run<'_> {
+    fn case(&mut self, case: &Alike) {
+        let schema = schema_frame(&case.schema);
+        let values: Vec<&Value> = case.pairs.iter().flat_map(|(a, b)| [a, b]).collect();
+        let lines = self.lines(&(schema.clone(), values.iter().map(|v| value_frame(v)).collect()));
+        for ((a, b), lines) in case.pairs.iter().zip(lines.chunks_exact(2)) {
+            assert!(trimmed(a, &case.schema) == trimmed(b, &case.schema), "the generator's pairs are alike");
+            self.pair(&schema, &lines[0], &lines[1]);
+        }
+        let accepted = |(v, line): (&&Value, &String)| {
+            let result = frame::unhex(line.strip_prefix("+ ")?.as_bytes())?;
+            Some((result, string_meets_fixed_or_decimal(v, &case.schema)))
+        };
+        let (results, strings): (Vec<_>, Vec<_>) = values.iter().zip(&lines).filter_map(accepted).unzip();
+        self.repeat(&case.schema, (schema, results), &strings);
+    }
+
+    /// The lines that two alike values got.
+    fn pair(&mut self, schema: &[u8], a: &str, b: &str) {
+        if [a, b].iter().any(|l| ["- 2", "- 3", "- 4", "- 5"].contains(l)) {
+            self.left_out += 1;
+            return;
+        }
+        self.pairs += 1;
+        if a != b {
+            self.unequal += 1;
+            println!("schema {}: alike values get {a} and {b}", hex(schema));
+        }
+    }
+
+    /// Gives results back as records; `strings` says for which a String met a Fixed or Decimal.
+    fn repeat(&mut self, tree: &Schema, case: Case, strings: &[bool]) {
+        let lines = self.lines(&case);
+        for ((result, line), string) in case.1.iter().zip(&lines).zip(strings) {
+            let unfit = !frame::read_value(result).is_ok_and(|v| fits(&v, tree));
+            let changed = *line != format!("+ {}", hex(result));
+            if !string && (unfit || changed) {
+                println!("schema {}: result {} repeats to {line}", hex(&case.0), hex(result));
+            }
+            let counts = if *string { &mut self.with_strings } else { &mut self.plain };
+            counts.all += 1;
+            counts.unfit += unfit as usize;
+            counts.changed += changed as usize;
+        }
+    }
+
+    /// The program's lines; counts the ones that are not the crate's.
+    fn lines(&mut self, case: &Case) -> Vec<String> {
+        let got = run(self.program, &input(case), self.dir);
+        let wrong = differences(&answer::of_case(case), &got);
+        if let Some(i) = wrong.first() {
+            println!("schema {}, value {}: the program differs from the crate", hex(&case.0), i + 1);
+        }
+        self.differ += wrong.len();
+        got
+    }
+
+    fn print(&self) {
+        let Run { plain, with_strings, .. } = self;
+        println!(
+            "{} alike pairs: {} unequal ({} more left out: 2 to 5)",
+            self.pairs, self.unequal, self.left_out
+        );
+        println!("{} results: {} don't fit, {} repeats change", plain.all, plain.unfit, plain.changed);
+        println!(
+            "{} results where a String meets a Fixed or Decimal: {} don't fit, {} repeats change",
+            with_strings.all, with_strings.unfit, with_strings.changed
+        );
+        println!("lines that differ from the crate's: {}", self.differ);
+    }
+}

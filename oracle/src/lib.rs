@@ -1,0 +1,10 @@
+//! The answers of apache-avro 0.22.0 on the frames of document 01, and cases to ask it for.
+pub mod answer;
+pub mod compare;
+pub mod convert;
+pub mod demand3;
+pub mod frame;
+pub mod generate;
+pub mod lists;
+pub mod meet;
+pub mod selftest;
