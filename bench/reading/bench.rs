@@ -75,6 +75,12 @@ fn field(name: &str, rest: &[u8]) -> Vec<u8> {
     [&text(name), rest].concat()
 }
 
+// Six letters that follow no order.
+fn by_chance(i: usize) -> String {
+    let mut x = (i as u64 + 1).wrapping_mul(0x9e3779b97f4a7c15);
+    (0..6).map(|_| { x ^= x >> 29; x = x.wrapping_mul(0xbf58476d1ce4e5b9); (b'a' + (x >> 40) as u8 % 26) as char }).collect()
+}
+
 // Records in records, each with 12 fields before the one that holds the next.
 fn nested(levels: usize) -> Vec<u8> {
     let mut s = many(0x0b, LIMIT - levels * 200, &|i| field(&format!("field_{i:04}"), &[0, 2]));
@@ -111,6 +117,7 @@ fn main() {
     time("schema: 1,000 fields", true, &many(0x0b, 14003, &|i| field(&format!("field_{i:04}"), &[0, 2])));
     time("schema: names of 3 characters", true, &many(0x0b, LIMIT, &|i| field(std::str::from_utf8(&[97 + (i % 26) as u8, 97 + (i / 26 % 26) as u8, 48 + (i / 676) as u8]).unwrap(), &[0, 2])));
     time("schema: names of a long prefix", true, &many(0x0b, LIMIT, &|i| field(&format!("a_long_common_prefix_of_every_name_{i:05}"), &[0, 2])));
+    time("schema: names by chance", true, &many(0x0b, LIMIT, &|i| field(&by_chance(i), &[0, 2])));
     time("schema: defaults", true, &many(0x0b, LIMIT, &|i| field(&format!("field_{i:05}"), &default)));
     time("schema: nullable fields", true, &many(0x0b, LIMIT, &|i| field(&format!("field_{i:05}"), &nullable)));
     time("schema: enum", true, &[many(0x0c, LIMIT - 1, &|i| text(&format!("symbol_{i:05}"))), vec![0]].concat());

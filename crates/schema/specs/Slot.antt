@@ -1,4 +1,4 @@
--- The two slots of a name in a table of 2,048 or 131,072, one in each half: equal names have the same ones.
+-- The two slots of a name in a table of 2,048 or 32,768, one in each half: equal names have the same ones.
 use Prim.Native.Nat.{ℕ, _+_, _*_, _/_, _%_}
 use mathlib.Core.List.{List, [], _∷_}
 use mathlib.Core.Bool.{Bool, true, false}
@@ -11,16 +11,16 @@ hashFrom h (b ∷ bs) = hashFrom ((h * 16777619 + b) % 4294967296) bs
 
 unfoldable pub slots : Bool → ℕ
 slots true = 2048
-slots false = 131072
+slots false = 32768
 
 -- by the low bits, and by the high ones
 unfoldable pub lowOf : Bool → ℕ → ℕ
 lowOf true h = h % 1024
-lowOf false h = h % 65536
+lowOf false h = h % 16384
 
 unfoldable pub highOf : Bool → ℕ → ℕ
 highOf true h = 1024 + h / 65536 % 1024
-highOf false h = 65536 + h / 65536 % 65536
+highOf false h = 16384 + h / 65536 % 16384
 
 unfoldable pub lowSlot : Bool → Text → ℕ
 lowSlot few t = lowOf few (hashFrom 0 t)

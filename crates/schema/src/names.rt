@@ -35,7 +35,7 @@ fn low_slot(h: usize, few: bool) -> usize
     if few {
         return h % 1024;
     }
-    h % 65536
+    h % 16384
 }
 
 // The slot in the upper half of the table.
@@ -45,7 +45,7 @@ fn high_slot(h: usize, few: bool) -> usize
     if few {
         return 1024 + h / 65536 % 1024;
     }
-    65536 + h / 65536 % 65536
+    16384 + h / 65536 % 16384
 }
 
 // Whether one of the n fields at the front of a part has the name.
@@ -105,7 +105,7 @@ fn differ_by(s: &[u8], depth: usize, few: bool, table: &mut [u8]) -> bool
     true
 }
 
-// Whether the names of the fields of a record differ.
+// Whether the names of the fields of a record differ. The tables are small, since records in records may each hold one.
 pub fn names_differ(s: &[u8], depth: usize) -> bool
     requires { ⌜ Reads (readList (readField (readSchema depth)) (now s)) ⌝ }
     ensures { λ r. ⌜ ((fs : List Field) (u : List ℕ) → readList (readField (readSchema depth)) (now (s .entry)) ≡ some (fs, u) → r ≡ namesDiffer fs) ⌝ }
@@ -114,6 +114,6 @@ pub fn names_differ(s: &[u8], depth: usize) -> bool
         let mut small = [0u8; 2048];
         return differ_by(s, depth, true, &mut small);
     }
-    let mut large = [0u8; 131072];
+    let mut large = [0u8; 32768];
     differ_by(s, depth, false, &mut large)
 }
