@@ -6,7 +6,7 @@ use mathlib.Core.Option.{none, some}
 use mathlib.Core.Bool.{Bool, true, false, _&&_, _||_, not}
 use native.Mathlib.Omega.{arith}
 use lib.Dec.{T, eqb}
-use lib.ListN.{length, getD, set, drop}
+use lib.ListN.{length, length-set, getD, set, drop}
 use lib.Seq.{drop-drop, drop-cons, getD-set-same, getD-set-other}
 use borrow.Author.Tests.{eqb-true, eqb-false}
 use Rattle.text.specs.Text.{Text, same}
@@ -19,18 +19,18 @@ use Rattle.frame.specs.SchemaFrame.{fieldsOf, readField}
 use Rattle.frame.specs.Sound.{hasField}
 use Rattle.frame.specs.Checks.{Spans}
 use Rattle.schema.specs.Parts.{Field, namesDiffer}
-use Rattle.schema.specs.Slot.{hashFrom, slots, slotOf}
+use Rattle.schema.specs.Slot.{hashFrom, slots, lowOf, highOf}
 use Rattle.schema.proofs.Reading.{read-what, read-rest, bind-some}
 use Rattle.schema.proofs.Seeking.{Left, First, many-first, left-start, left-first, left-step, left-end, reads-some, list-long}
 use Rattle.schema.proofs.Checking.{seeks, name-is}
 
 -- ---- slots
 
-pub hash-step : (s : List ℕ) (h i : ℕ) → i < length s → hashFrom ((h * 31 + getD s i 0) % 65536) (drop (i + 1) s) ≡ hashFrom h (drop i s)
+pub hash-step : (s : List ℕ) (h i : ℕ) → i < length s → hashFrom ((h * 16777619 + getD s i 0) % 4294967296) (drop (i + 1) s) ≡ hashFrom h (drop i s)
 unfolding hashFrom
 hash-step s h i l =
     let q : i + 1 ≡ suc i = omega arith in
-    ap (λ j. hashFrom ((h * 31 + getD s i 0) % 65536) (drop j s)) q ∙ sym (ap (hashFrom h) (drop-cons s i 0 l))
+    ap (λ j. hashFrom ((h * 16777619 + getD s i 0) % 4294967296) (drop j s)) q ∙ sym (ap (hashFrom h) (drop-cons s i 0 l))
 
 pub hash-end : (s : List ℕ) (h i : ℕ) → length s ≤ i → hashFrom h (drop i s) ≡ h
 unfolding hashFrom
@@ -39,10 +39,15 @@ hash-end [] h (suc i) l = refl
 hash-end (x ∷ s) h zero l = absurd (omega arith)
 hash-end (x ∷ s) h (suc i) l = hash-end s h i (omega arith)
 
-pub slot-inside : (few : Bool) (t : Text) → slotOf few t < slots few
-unfolding slotOf slots
-slot-inside true t = omega arith
-slot-inside false t = omega arith
+pub low-inside : (few : Bool) (h : ℕ) → lowOf few h < slots few
+unfolding lowOf slots
+low-inside true h = omega arith
+low-inside false h = omega arith
+
+pub high-inside : (few : Bool) (h : ℕ) → highOf few h < slots few
+unfolding highOf slots
+high-inside true h = omega arith
+high-inside false h = omega arith
 
 -- ---- the slots that names took
 
@@ -80,6 +85,11 @@ module _ (key : Text → ℕ) (t : List ℕ) where
           let z : getD (set t k 1) k 0 ≡ 0 = ap (λ i. getD (set t k 1) i 0) (sym (eqb-true j k g)) ∙ e in
           omega (arith, getD-set-same t k 1 0 h)
       go false g = f (sym (getD-set-other t k j 1 0 (eqb-false j k g)) ∙ e)
+
+  pub taken-still : (k : ℕ) → k < length t → (fs : List Field) → Taken key t fs → Taken key (set t k 1) fs
+  unfolding Taken
+  taken-still k h [] w = w
+  taken-still k h (g ∷ fs) w = (still k (key (g .0)) h (w .0), taken-still k h fs (w .1))
 
   -- one more takes its slot
   pub taken-more : (k : ℕ) → k < length t → (fs : List Field) (f : Field) → k ≡ key (f .0) → Taken key t fs → Taken key (set t k 1) (fs ++ (f ∷ []))
@@ -166,32 +176,40 @@ spans-behind x t m w a r e = read-rest (sym e ∙ w .1 .1)
 
 -- ---- the loop over the fields: what was read, and what is left
 
-pub record Looking (node : List ℕ → Read Schema) (key : Text → ℕ) (s : List ℕ) (table : List ℕ) (left at done : ℕ) : Type 0 where
+pub record Looking (node : List ℕ → Read Schema) (low high : Text → ℕ) (s : List ℕ) (table : List ℕ) (left at done : ℕ) : Type 0 where
   pub before : List Field
   pub rest : Left (readList (readField node) s) (readField node) (λ l. l) (λ l. before ++ l) s at left
   pub front : readMany (readField node) done (drop 2 s) ≡ some (before, drop at s)
   pub differ : namesDiffer before ≡ true
-  pub taken : Taken key table before
+  pub taken-low : Taken low table before
+  pub taken-high : Taken high table before
 
-module _ (node : List ℕ → Read Schema) (key : Text → ℕ) (s : List ℕ) where
-  pub looking-start : (table : List ℕ) (n : ℕ) → Reads (readList (readField node) s) → readList (readField node) s ≡ readMany (readField node) n (drop 2 s) → Looking node key s table n 2 0
+module _ (node : List ℕ → Read Schema) (low high : Text → ℕ) (s : List ℕ) where
+  pub looking-start : (table : List ℕ) (n : ℕ) → Reads (readList (readField node) s) → readList (readField node) s ≡ readMany (readField node) n (drop 2 s) → Looking node low high s table n 2 0
   unfolding readMany namesDiffer Taken
   looking-start table n r e = record {
     before = [];
     rest = left-start _ (readField node) (λ l. l) (λ l. [] ++ l) s 2 n (list-long _ s r) e r (λ l. refl);
     front = refl;
     differ = refl;
-    taken = tt;
+    taken-low = tt;
+    taken-high = tt;
   }
 
-  module _ (table : List ℕ) (left at done : ℕ) (w : Looking node key s table left at done) where
+  module _ (table : List ℕ) (left at done : ℕ) (w : Looking node low high s table left at done) where
     pub looking-reads : Reads (readMany (readField node) done (drop 2 s))
     looking-reads = reads-some _ (w .before) (drop at s) (w .front)
 
-    -- a free slot
-    pub looking-free : (n : Text) (k : ℕ) → k ≡ key n → getD table k 0 ≡ 0 → (fs : List Field) (u : List ℕ) → readMany (readField node) done (drop 2 s) ≡ some (fs, u) → seeks n fs ≡ false
-    looking-free n k q e fs u g =
-        ap (seeks n) (sym (read-what (sym (w .front) ∙ g))) ∙ free-new key table n (w .before) (w .taken) (ap (λ i. getD table i 0) (sym q) ∙ e)
+    free : (key : Text → ℕ) → Taken key table (w .before) → (n : Text) (k : ℕ) → k ≡ key n → getD table k 0 ≡ 0 → (fs : List Field) (u : List ℕ) → readMany (readField node) done (drop 2 s) ≡ some (fs, u) → seeks n fs ≡ false
+    free key t n k q e fs u g =
+        ap (seeks n) (sym (read-what (sym (w .front) ∙ g))) ∙ free-new key table n (w .before) t (ap (λ i. getD table i 0) (sym q) ∙ e)
+
+    -- a slot is free
+    pub looking-low : (n : Text) (k : ℕ) → k ≡ low n → getD table k 0 ≡ 0 → (fs : List Field) (u : List ℕ) → readMany (readField node) done (drop 2 s) ≡ some (fs, u) → seeks n fs ≡ false
+    looking-low = free low (w .taken-low)
+
+    pub looking-high : (n : Text) (k : ℕ) → k ≡ high n → getD table k 0 ≡ 0 → (fs : List Field) (u : List ℕ) → readMany (readField node) done (drop 2 s) ≡ some (fs, u) → seeks n fs ≡ false
+    looking-high = free high (w .taken-high)
 
     pub looking-end : left ≤ 0 → (fs : List Field) (u : List ℕ) → readList (readField node) s ≡ some (fs, u) → true ≡ namesDiffer fs
     looking-end h fs u e =
@@ -216,15 +234,19 @@ module _ (node : List ℕ → Read Schema) (key : Text → ℕ) (s : List ℕ) w
       looking-hit t fs u e =
           sym (ap namesDiffer (w .rest .tells fs u e ∙ ap (λ l. w .before ++ l) (next .cons)) ∙ differ-not (w .before) (next .item) (next .others) (sym seen ∙ t))
 
-      pub looking-step : has ≡ false → (k : ℕ) → k ≡ key name → k < length table → (m : ℕ) → Spans (readField node (drop at s)) (drop at s) m → Looking node key s (set table k 1) (left - 1) (at + m) (done + 1)
-      looking-step t k q l m z = record {
+      pub looking-step : has ≡ false → (j k : ℕ) → j ≡ low name → k ≡ high name → j < length table → k < length table → (m : ℕ) → Spans (readField node (drop at s)) (drop at s) m → Looking node low high s (set (set table j 1) k 1) (left - 1) (at + m) (done + 1)
+      looking-step t j k p q i l m z = record {
         before = w .before ++ (next .item ∷ []);
         rest = left-step _ (readField node) (λ l. l) (λ l. w .before ++ l) s at left (w .rest) (λ l. w .before ++ (next .item ∷ []) ++ l) h m z (sym (append-assoc (w .before) (next .item ∷ []) (next .others)));
         front = ap (λ k. readMany (readField node) k (drop 2 s)) one-more ∙ many-more (readField node) done (drop 2 s) (w .before) (drop at s) (next .item) (drop (at + m) s) (w .front) (next .first ∙ ap (λ r. some (next .item, r)) behind);
         differ = differ-more (w .before) (next .item) (w .differ) (sym seen ∙ t);
-        taken = taken-more key table k l (w .before) (next .item) (q ∙ ap key named) (w .taken);
+        taken-low = taken-still low (set table j 1) k inside (w .before ++ (next .item ∷ [])) (taken-more low table j i (w .before) (next .item) (p ∙ ap low named) (w .taken-low));
+        taken-high = taken-more high (set table j 1) k inside (w .before) (next .item) (q ∙ ap high named) (taken-still high table j i (w .before) (w .taken-high));
       }
         where
+          inside : k < length (set table j 1)
+          inside = simp length-set l
+
           one-more : done + 1 ≡ suc done
           one-more = omega arith
 

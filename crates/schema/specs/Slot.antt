@@ -1,16 +1,29 @@
--- The slot of a name in a table of 1,024 or 65,536: equal names have the same one.
-use Prim.Native.Nat.{ℕ, _+_, _*_, _%_}
+-- The two slots of a name in a table of 2,048 or 32,768, one in each half: equal names have the same ones.
+use Prim.Native.Nat.{ℕ, _+_, _*_, _/_, _%_}
 use mathlib.Core.List.{List, [], _∷_}
 use mathlib.Core.Bool.{Bool, true, false}
 use Rattle.text.specs.Text.{Text}
 
+-- a number below 2^32 that depends on every byte
 unfoldable pub hashFrom : ℕ → Text → ℕ
 hashFrom h [] = h
-hashFrom h (b ∷ bs) = hashFrom ((h * 31 + b) % 65536) bs
+hashFrom h (b ∷ bs) = hashFrom ((h * 16777619 + b) % 4294967296) bs
 
 unfoldable pub slots : Bool → ℕ
-slots true = 1024
-slots false = 65536
+slots true = 2048
+slots false = 32768
 
-unfoldable pub slotOf : Bool → Text → ℕ
-slotOf few t = hashFrom 0 t % slots few
+-- by the low bits, and by the high ones
+unfoldable pub lowOf : Bool → ℕ → ℕ
+lowOf true h = h % 1024
+lowOf false h = h % 16384
+
+unfoldable pub highOf : Bool → ℕ → ℕ
+highOf true h = 1024 + h / 65536 % 1024
+highOf false h = 16384 + h / 65536 % 16384
+
+unfoldable pub lowSlot : Bool → Text → ℕ
+lowSlot few t = lowOf few (hashFrom 0 t)
+
+unfoldable pub highSlot : Bool → Text → ℕ
+highSlot few t = highOf few (hashFrom 0 t)

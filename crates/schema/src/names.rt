@@ -1,5 +1,5 @@
-// The names of a record's fields: whether one stands twice. Each name takes a slot of a table; one whose slot is still free is new,
-// and only the others are looked for among the earlier fields.
+// The names of a record's fields: whether one stands twice. Each name takes two slots of a table; one of which a slot is still free
+// is new, and only the others are looked for among the earlier fields.
 use crate::skip::field_len;
 use number::read2;
 ghost use mathlib.Core.Path.{_≡_};
@@ -13,22 +13,39 @@ ghost use Rattle.frame.specs.Readers.{readMany, readList};
 ghost use Rattle.frame.specs.SchemaFrame.{readField, readSchema, fieldsOf};
 ghost use Rattle.frame.specs.Sound.{hasField};
 ghost use Rattle.schema.specs.Parts.{Field, namesDiffer};
-ghost use Rattle.schema.specs.Slot.{slots, slotOf};
+ghost use Rattle.schema.specs.Slot.{hashFrom, slots, lowOf, highOf};
 
-// The slot of a name, for few fields or for many.
-fn slot(name: &[u8], few: bool) -> usize
-    ensures { λ r. ⌜ r ≡ slotOf few (now (name .entry)) ⌝ }
+// A number that equal names share.
+fn hash(name: &[u8]) -> usize
+    ensures { λ r. ⌜ r ≡ hashFrom 0 (now (name .entry)) ⌝ }
 {
     let mut h: usize = 0;
     let mut i: usize = 0;
     while i < name.len() {
-        h = (h * 31 + (name[i] as usize)) % 65536;
+        h = (h * 16777619 + (name[i] as usize)) % 4294967296;
         i += 1;
     }
+    h
+}
+
+// The slot in the lower half of the table.
+fn low_slot(h: usize, few: bool) -> usize
+    ensures { λ r. ⌜ r ≡ lowOf few h ⌝ }
+{
     if few {
         return h % 1024;
     }
-    h % 65536
+    h % 16384
+}
+
+// The slot in the upper half of the table.
+fn high_slot(h: usize, few: bool) -> usize
+    ensures { λ r. ⌜ r ≡ highOf few h ⌝ }
+{
+    if few {
+        return 1024 + h / 65536 % 1024;
+    }
+    16384 + h / 65536 % 16384
 }
 
 // Whether one of the n fields at the front of a part has the name.
@@ -49,12 +66,15 @@ fn has_field(s: &[u8], n: usize, name: &[u8], depth: usize) -> bool
     false
 }
 
-// The same, where none has it if its slot is free.
-fn repeats(taken: u8, s: &[u8], n: usize, name: &[u8], depth: usize) -> bool
-    requires { ⌜ Reads (readMany (readField (readSchema depth)) n (now s)) × ((fs : List Field) (u : List ℕ) → readMany (readField (readSchema depth)) n (now s) ≡ some (fs, u) → taken ≡ 0 → hasField (now name) (fieldsOf fs) ≡ false) ⌝ }
+// The same, where none has it if one of its slots is free.
+fn repeats(low: u8, high: u8, s: &[u8], n: usize, name: &[u8], depth: usize) -> bool
+    requires { ⌜ Reads (readMany (readField (readSchema depth)) n (now s)) × ((fs : List Field) (u : List ℕ) → readMany (readField (readSchema depth)) n (now s) ≡ some (fs, u) → low ≡ 0 → hasField (now name) (fieldsOf fs) ≡ false) × ((fs : List Field) (u : List ℕ) → readMany (readField (readSchema depth)) n (now s) ≡ some (fs, u) → high ≡ 0 → hasField (now name) (fieldsOf fs) ≡ false) ⌝ }
     ensures { λ r. ⌜ ((fs : List Field) (u : List ℕ) → readMany (readField (readSchema depth)) n (now (s .entry)) ≡ some (fs, u) → r ≡ hasField (now (name .entry)) (fieldsOf fs)) ⌝ }
 {
-    if taken == 0 {
+    if low == 0 {
+        return false;
+    }
+    if high == 0 {
         return false;
     }
     has_field(s, n, name, depth)
@@ -70,10 +90,13 @@ fn differ_by(s: &[u8], depth: usize, few: bool, table: &mut [u8]) -> bool
     let mut done: usize = 0;
     while 0 < left {
         let name = text::content(&s[at..]);
-        let k = slot(name, few);
-        if repeats(table[k], &s[2..], done, name, depth) {
+        let h = hash(name);
+        let j = low_slot(h, few);
+        let k = high_slot(h, few);
+        if repeats(table[j], table[k], &s[2..], done, name, depth) {
             return false;
         }
+        table[j] = 1;
         table[k] = 1;
         at += field_len(&s[at..], depth);
         left -= 1;
@@ -82,15 +105,15 @@ fn differ_by(s: &[u8], depth: usize, few: bool, table: &mut [u8]) -> bool
     true
 }
 
-// Whether the names of the fields of a record differ.
+// Whether the names of the fields of a record differ. The tables are small, since records in records may each hold one.
 pub fn names_differ(s: &[u8], depth: usize) -> bool
     requires { ⌜ Reads (readList (readField (readSchema depth)) (now s)) ⌝ }
     ensures { λ r. ⌜ ((fs : List Field) (u : List ℕ) → readList (readField (readSchema depth)) (now (s .entry)) ≡ some (fs, u) → r ≡ namesDiffer fs) ⌝ }
 {
-    if read2(s, 0) <= 64 {
-        let mut small = [0u8; 1024];
+    if read2(s, 0) <= 256 {
+        let mut small = [0u8; 2048];
         return differ_by(s, depth, true, &mut small);
     }
-    let mut large = [0u8; 65536];
+    let mut large = [0u8; 32768];
     differ_by(s, depth, false, &mut large)
 }

@@ -4,18 +4,18 @@ use mathlib.Core.Path.{_≡_, refl, sym, ap, _∙_}
 use native.Mathlib.Omega.{arith}
 use lib.ListN.{length, length-set, drop, length-drop}
 use Rattle.frame.specs.Readers.{readMany}
-use Rattle.frame.specs.SchemaFrame.{readField, readSchema}
-use Rattle.schema.specs.Slot.{slotOf}
+use Rattle.frame.specs.SchemaFrame.{readField, readSchema, fieldsOf}
+use Rattle.schema.specs.Slot.{lowOf, highOf, lowSlot, highSlot}
 use Rattle.schema.proofs.Reading.{tail, list-got}
 use Rattle.schema.proofs.Seeking.{left-reads, list-long, spans-inside}
 use Rattle.schema.proofs.Checking.{name-reads}
-use Rattle.schema.proofs.Looking.{slot-inside, Looking, looking-start, looking-reads, looking-free, looking-hit, looking-step, looking-end}
+use Rattle.schema.proofs.Looking.{low-inside, high-inside, Looking, looking-start, looking-reads, looking-low, looking-high, looking-hit, looking-step, looking-end}
 use borrow.Author.Needs.{needs}
 use Rattle.schema.proofs.names.differ_by.Statement.{statement}
 use Rattle.schema.proofs.names.differ_by.Tie as tie
 
 abbrev Inv-loop : tie.InvT-loop
-Inv-loop s depth few table₀ left₀ at₀ done₀ table left at done = (length table ≡ length table₀) × (done + left < 65536) × Looking (readSchema depth) (slotOf few) s table left at done
+Inv-loop s depth few table₀ left₀ at₀ done₀ table left at done = (length table ≡ length table₀) × (done + left < 65536) × Looking (readSchema depth) (lowSlot few) (highSlot few) s table left at done
 
 abbrev μ-loop : tie.MeasureT-loop
 μ-loop s depth few table₀ left₀ at₀ done₀ table left at done = left
@@ -30,7 +30,7 @@ loop-holds : tie.Need-loop-holds Inv-loop μ-loop
 loop-holds c =
     let s = c .before .before .before .args .s .now in
     let long = list-long (readField (readSchema (c .before .before .before .args .depth))) s (c .before .before .before .pre .0) in
-    (refl, omega (arith, c .read2 .ok), looking-start (readSchema (c .before .before .before .args .depth)) (slotOf (c .before .before .before .args .few)) s _ _ (c .before .before .before .pre .0) (list-got _ s long ∙ ap (λ k. readMany (readField (readSchema (c .before .before .before .args .depth))) k (drop 2 s)) (sym (c .read2 .ensures))))
+    (refl, omega (arith, c .read2 .ok), looking-start (readSchema (c .before .before .before .args .depth)) (lowSlot (c .before .before .before .args .few)) (highSlot (c .before .before .before .args .few)) s _ _ (c .before .before .before .pre .0) (list-got _ s long ∙ ap (λ k. readMany (readField (readSchema (c .before .before .before .args .depth))) k (drop 2 s)) (sym (c .read2 .ensures))))
 
 sub-content : tie.Need-sub-content Inv-loop μ-loop
 sub-content c = omega (arith, c .before .loop .inv .2 .rest .inside)
@@ -42,52 +42,62 @@ content-requires : tie.Need-content-requires Inv-loop μ-loop
 content-requires c κs = rw tail (name-reads (readSchema (c .before .before .before .before .before .before .args .depth)) _ (left-reads _ _ _ _ _ _ _ (c .before .before .loop .inv .2 .rest) (c .before .loop-test .taken)))
 
 slice-read-repeats : tie.Need-slice-read-repeats Inv-loop μ-loop
-slice-read-repeats c = omega (arith, c .before .slot .ensures, slot-inside (c .before .before .before .before .before .before .before .before .before .args .few) (c .before .before .content .result .now), c .before .before .before .before .before .before .before .before .before .pre .1, c .before .before .before .before .before .loop .inv .0)
+slice-read-repeats c = omega (arith, c .before .before .low-slot .ensures, low-inside (c .before .before .before .before .before .before .before .before .before .before .before .args .few) (c .before .before .before .hash .result), c .before .before .before .before .before .before .before .before .before .before .before .pre .1, c .before .before .before .before .before .before .before .loop .inv .0)
+
+slice-read-repeats-2 : tie.Need-slice-read-repeats-2 Inv-loop μ-loop
+slice-read-repeats-2 c = omega (arith, c .before .before .high-slot .ensures, high-inside (c .before .before .before .before .before .before .before .before .before .before .before .before .args .few) (c .before .before .before .before .hash .result), c .before .before .before .before .before .before .before .before .before .before .before .before .pre .1, c .before .before .before .before .before .before .before .before .loop .inv .0)
 
 sub-repeats : tie.Need-sub-repeats Inv-loop μ-loop
-sub-repeats c = list-long _ _ (c .before .before .before .before .before .before .before .before .before .pre .0)
+sub-repeats c = list-long _ _ (c .before .before .before .before .before .before .before .before .before .before .before .before .pre .0)
 
 part-repeats-start : tie.Need-part-repeats-start Inv-loop μ-loop
-part-repeats-start c = list-long _ _ (c .before .before .before .before .before .before .before .before .before .pre .0)
+part-repeats-start c = list-long _ _ (c .before .before .before .before .before .before .before .before .before .before .before .before .pre .0)
 
 repeats-requires : tie.Need-repeats-requires Inv-loop μ-loop
-repeats-requires c κs = rw tail (looking-reads (readSchema (c .before .before .before .before .before .before .before .before .before .before .args .depth)) (slotOf (c .before .before .before .before .before .before .before .before .before .before .args .few)) (c .before .before .before .before .before .before .before .before .before .before .args .s .now) _ _ _ _ (c .before .before .before .before .before .before .loop .inv .2), λ fs u e z. looking-free (readSchema (c .before .before .before .before .before .before .before .before .before .before .args .depth)) (slotOf (c .before .before .before .before .before .before .before .before .before .before .args .few)) (c .before .before .before .before .before .before .before .before .before .before .args .s .now) _ _ _ _ (c .before .before .before .before .before .before .loop .inv .2) (c .before .before .before .content .result .now) _ (c .before .before .slot .ensures) z fs u e)
+unfolding lowSlot highSlot
+repeats-requires c κs = rw tail (looking-reads (readSchema (c .before .before .before .before .before .before .before .before .before .before .before .before .before .args .depth)) (lowSlot (c .before .before .before .before .before .before .before .before .before .before .before .before .before .args .few)) (highSlot (c .before .before .before .before .before .before .before .before .before .before .before .before .before .args .few)) (c .before .before .before .before .before .before .before .before .before .before .before .before .before .args .s .now) _ _ _ _ (c .before .before .before .before .before .before .before .before .before .loop .inv .2), (λ fs u e z. looking-low (readSchema (c .before .before .before .before .before .before .before .before .before .before .before .before .before .args .depth)) (lowSlot (c .before .before .before .before .before .before .before .before .before .before .before .before .before .args .few)) (highSlot (c .before .before .before .before .before .before .before .before .before .before .before .before .before .args .few)) (c .before .before .before .before .before .before .before .before .before .before .before .before .before .args .s .now) _ _ _ _ (c .before .before .before .before .before .before .before .before .before .loop .inv .2) (c .before .before .before .before .before .before .content .result .now) _ (c .before .before .before .before .low-slot .ensures ∙ ap (lowOf (c .before .before .before .before .before .before .before .before .before .before .before .before .before .args .few)) (c .before .before .before .before .before .hash .ensures)) z fs u e), (λ fs u e z. looking-high (readSchema (c .before .before .before .before .before .before .before .before .before .before .before .before .before .args .depth)) (lowSlot (c .before .before .before .before .before .before .before .before .before .before .before .before .before .args .few)) (highSlot (c .before .before .before .before .before .before .before .before .before .before .before .before .before .args .few)) (c .before .before .before .before .before .before .before .before .before .before .before .before .before .args .s .now) _ _ _ _ (c .before .before .before .before .before .before .before .before .before .loop .inv .2) (c .before .before .before .before .before .before .content .result .now) _ (c .before .before .before .high-slot .ensures ∙ ap (highOf (c .before .before .before .before .before .before .before .before .before .before .before .before .before .args .few)) (c .before .before .before .before .before .hash .ensures)) z fs u e))
 
 same-length : tie.Need-same-length Inv-loop μ-loop
-same-length c = c .before .before .before .before .before .before .before .before .loop .inv .0
+same-length c = c .before .before .before .before .before .before .before .before .before .before .before .loop .inv .0
 
 returns : tie.Need-returns Inv-loop μ-loop
-returns c = looking-hit (readSchema (c .before .before .before .before .before .before .before .before .before .before .before .before .args .depth)) (slotOf (c .before .before .before .before .before .before .before .before .before .before .before .before .args .few)) (c .before .before .before .before .before .before .before .before .before .before .before .before .args .s .now) _ _ _ _ (c .before .before .before .before .before .before .before .before .loop .inv .2) (c .before .before .before .before .before .before .before .loop-test .taken) (c .before .before .before .before .before .content .result .now) _ (rw tail at (c .before .before .before .before .before .content .ensures .0)) _ (rw tail at (c .before .repeats .ensures)) (c .if1 .taken)
+returns c = looking-hit (readSchema (c .before .before .before .before .before .before .before .before .before .before .before .before .before .before .before .args .depth)) (lowSlot (c .before .before .before .before .before .before .before .before .before .before .before .before .before .before .before .args .few)) (highSlot (c .before .before .before .before .before .before .before .before .before .before .before .before .before .before .before .args .few)) (c .before .before .before .before .before .before .before .before .before .before .before .before .before .before .before .args .s .now) _ _ _ _ (c .before .before .before .before .before .before .before .before .before .before .before .loop .inv .2) (c .before .before .before .before .before .before .before .before .before .before .loop-test .taken) (c .before .before .before .before .before .before .before .before .content .result .now) _ (rw tail at (c .before .before .before .before .before .before .before .before .content .ensures .0)) _ (rw tail at (c .before .repeats .ensures)) (c .if1 .taken)
 
 slice-write-table : tie.Need-slice-write-table Inv-loop μ-loop
-slice-write-table c = omega (arith, c .before .before .before .before .slot .ensures, slot-inside (c .before .before .before .before .before .before .before .before .before .before .before .before .args .few) (c .before .before .before .before .before .content .result .now), c .before .before .before .before .before .before .before .before .before .before .before .before .pre .1, c .before .before .before .before .before .before .before .before .loop .inv .0)
+slice-write-table c = omega (arith, c .before .before .before .before .before .before .low-slot .ensures, low-inside (c .before .before .before .before .before .before .before .before .before .before .before .before .before .before .before .args .few) (c .before .before .before .before .before .before .before .hash .result), c .before .before .before .before .before .before .before .before .before .before .before .before .before .before .before .pre .1, c .before .before .before .before .before .before .before .before .before .before .before .loop .inv .0)
+
+slice-write-table-2 : tie.Need-slice-write-table-2 Inv-loop μ-loop
+slice-write-table-2 c = simp length-set (omega (arith, c .before .before .before .before .before .high-slot .ensures, high-inside (c .before .before .before .before .before .before .before .before .before .before .before .before .before .before .before .args .few) (c .before .before .before .before .before .before .before .hash .result), c .before .before .before .before .before .before .before .before .before .before .before .before .before .before .before .pre .1, c .before .before .before .before .before .before .before .before .before .before .before .loop .inv .0))
 
 sub-field-len : tie.Need-sub-field-len Inv-loop μ-loop
-sub-field-len c = omega (arith, c .before .before .before .before .before .before .before .before .loop .inv .2 .rest .inside)
+sub-field-len c = omega (arith, c .before .before .before .before .before .before .before .before .before .before .before .loop .inv .2 .rest .inside)
 
 part-field-len-start : tie.Need-part-field-len-start Inv-loop μ-loop
-part-field-len-start c = omega (arith, c .before .before .before .before .before .before .before .before .loop .inv .2 .rest .inside)
+part-field-len-start c = omega (arith, c .before .before .before .before .before .before .before .before .before .before .before .loop .inv .2 .rest .inside)
 
 field-len-requires : tie.Need-field-len-requires Inv-loop μ-loop
-field-len-requires c κs = rw tail (left-reads _ _ _ _ _ _ _ (c .before .before .before .before .before .before .before .before .before .loop .inv .2 .rest) (c .before .before .before .before .before .before .before .before .loop-test .taken))
+field-len-requires c κs = rw tail (left-reads _ _ _ _ _ _ _ (c .before .before .before .before .before .before .before .before .before .before .before .before .loop .inv .2 .rest) (c .before .before .before .before .before .before .before .before .before .before .before .loop-test .taken))
 
 add-at : tie.Need-add-at Inv-loop μ-loop
-add-at c = omega (arith, spans-inside _ _ _ (rw tail at (c .field-len .ensures)), length-drop (c .before .before .before .before .before .before .before .before .before .before .loop .at) (c .before .before .before .before .before .before .before .before .before .before .before .before .before .before .args .s .now), c .before .before .before .before .before .before .before .before .before .before .before .before .before .before .good, c .before .before .before .before .before .before .before .before .before .before .loop .inv .2 .rest .inside)
+add-at c = omega (arith, spans-inside _ _ _ (rw tail at (c .field-len .ensures)), length-drop (c .before .before .before .before .before .before .before .before .before .before .before .before .before .loop .at) (c .before .before .before .before .before .before .before .before .before .before .before .before .before .before .before .before .before .args .s .now), c .before .before .before .before .before .before .before .before .before .before .before .before .before .before .before .before .before .good, c .before .before .before .before .before .before .before .before .before .before .before .before .before .loop .inv .2 .rest .inside)
 
 add-done : tie.Need-add-done Inv-loop μ-loop
-add-done c = omega (arith, c .before .before .before .before .before .before .before .before .before .before .loop .inv .1)
+add-done c = omega (arith, c .before .before .before .before .before .before .before .before .before .before .before .before .before .loop .inv .1)
 
 loop-again : tie.Need-loop-again Inv-loop μ-loop
+unfolding lowSlot highSlot
 loop-again c =
-    let k = c .before .before .before .before .before .before .slot .result in
-    let inside : k < length (c .before .before .before .before .before .before .before .before .before .before .loop .table) = omega (arith, c .before .before .before .before .before .before .slot .ensures, slot-inside (c .before .before .before .before .before .before .before .before .before .before .before .before .before .before .args .few) (c .before .before .before .before .before .before .before .content .result .now), c .before .before .before .before .before .before .before .before .before .before .before .before .before .before .pre .1, c .before .before .before .before .before .before .before .before .before .before .loop .inv .0) in
-    (length-set (c .before .before .before .before .before .before .before .before .before .before .loop .table) k 1 ∙ c .before .before .before .before .before .before .before .before .before .before .loop .inv .0, omega (arith, c .before .before .before .before .before .before .before .before .before .before .loop .inv .1, c .before .before .before .before .before .before .before .before .before .loop-test .taken), looking-step (readSchema (c .before .before .before .before .before .before .before .before .before .before .before .before .before .before .args .depth)) (slotOf (c .before .before .before .before .before .before .before .before .before .before .before .before .before .before .args .few)) (c .before .before .before .before .before .before .before .before .before .before .before .before .before .before .args .s .now) _ _ _ _ (c .before .before .before .before .before .before .before .before .before .before .loop .inv .2) (c .before .before .before .before .before .before .before .before .before .loop-test .taken) (c .before .before .before .before .before .before .before .content .result .now) _ (rw tail at (c .before .before .before .before .before .before .before .content .ensures .0)) _ (rw tail at (c .before .before .before .repeats .ensures)) (c .before .before .if1 .left) k (c .before .before .before .before .before .before .slot .ensures) inside _ (rw tail at (c .field-len .ensures)))
+    let j = c .before .before .before .before .before .before .before .before .low-slot .result in
+    let k = c .before .before .before .before .before .before .before .high-slot .result in
+    let low : j < length (c .before .before .before .before .before .before .before .before .before .before .before .before .before .loop .table) = omega (arith, c .before .before .before .before .before .before .before .before .low-slot .ensures, low-inside (c .before .before .before .before .before .before .before .before .before .before .before .before .before .before .before .before .before .args .few) (c .before .before .before .before .before .before .before .before .before .hash .result), c .before .before .before .before .before .before .before .before .before .before .before .before .before .before .before .before .before .pre .1, c .before .before .before .before .before .before .before .before .before .before .before .before .before .loop .inv .0) in
+    let high : k < length (c .before .before .before .before .before .before .before .before .before .before .before .before .before .loop .table) = omega (arith, c .before .before .before .before .before .before .before .high-slot .ensures, high-inside (c .before .before .before .before .before .before .before .before .before .before .before .before .before .before .before .before .before .args .few) (c .before .before .before .before .before .before .before .before .before .hash .result), c .before .before .before .before .before .before .before .before .before .before .before .before .before .before .before .before .before .pre .1, c .before .before .before .before .before .before .before .before .before .before .before .before .before .loop .inv .0) in
+    (simp length-set (c .before .before .before .before .before .before .before .before .before .before .before .before .before .loop .inv .0), omega (arith, c .before .before .before .before .before .before .before .before .before .before .before .before .before .loop .inv .1, c .before .before .before .before .before .before .before .before .before .before .before .before .loop-test .taken), looking-step (readSchema (c .before .before .before .before .before .before .before .before .before .before .before .before .before .before .before .before .before .args .depth)) (lowSlot (c .before .before .before .before .before .before .before .before .before .before .before .before .before .before .before .before .before .args .few)) (highSlot (c .before .before .before .before .before .before .before .before .before .before .before .before .before .before .before .before .before .args .few)) (c .before .before .before .before .before .before .before .before .before .before .before .before .before .before .before .before .before .args .s .now) _ _ _ _ (c .before .before .before .before .before .before .before .before .before .before .before .before .before .loop .inv .2) (c .before .before .before .before .before .before .before .before .before .before .before .before .loop-test .taken) (c .before .before .before .before .before .before .before .before .before .before .content .result .now) _ (rw tail at (c .before .before .before .before .before .before .before .before .before .before .content .ensures .0)) _ (rw tail at (c .before .before .before .repeats .ensures)) (c .before .before .if1 .left) j k (c .before .before .before .before .before .before .before .before .low-slot .ensures ∙ ap (lowOf (c .before .before .before .before .before .before .before .before .before .before .before .before .before .before .before .before .before .args .few)) (c .before .before .before .before .before .before .before .before .before .hash .ensures)) (c .before .before .before .before .before .before .before .high-slot .ensures ∙ ap (highOf (c .before .before .before .before .before .before .before .before .before .before .before .before .before .before .before .before .before .args .few)) (c .before .before .before .before .before .before .before .before .before .hash .ensures)) low high _ (rw tail at (c .field-len .ensures)))
 
 same-length-2 : tie.Need-same-length-2 Inv-loop μ-loop
 same-length-2 c = c .before .loop .inv .0
 
 returns-2 : tie.Need-returns-2 Inv-loop μ-loop
-returns-2 c = looking-end (readSchema (c .before .before .before .before .before .args .depth)) (slotOf (c .before .before .before .before .before .args .few)) (c .before .before .before .before .before .args .s .now) _ _ _ _ (c .before .loop .inv .2) (c .loop-test .left)
+returns-2 c = looking-end (readSchema (c .before .before .before .before .before .args .depth)) (lowSlot (c .before .before .before .before .before .args .few)) (highSlot (c .before .before .before .before .before .args .few)) (c .before .before .before .before .before .args .s .now) _ _ _ _ (c .before .loop .inv .2) (c .loop-test .left)
 
 pub differ-by-spec : {M : Type 1} → statement M
-differ-by-spec = tie.close (tie.spec Inv-loop μ-loop read2-requires cast-left loop-holds sub-content part-content-start (λ c. search needs) content-requires (λ c κs. search needs) slice-read-repeats sub-repeats part-repeats-start (λ c. search needs) repeats-requires same-length returns slice-write-table sub-field-len part-field-len-start (λ c. search needs) field-len-requires add-at (λ c. search needs) add-done (λ c. search needs) loop-again same-length-2 returns-2)
+differ-by-spec = tie.close (tie.spec Inv-loop μ-loop read2-requires cast-left loop-holds sub-content part-content-start (λ c. search needs) content-requires (λ c κs. search needs) (λ c κs. search needs) (λ c κs. search needs) slice-read-repeats slice-read-repeats-2 sub-repeats part-repeats-start (λ c. search needs) repeats-requires same-length returns slice-write-table slice-write-table-2 sub-field-len part-field-len-start (λ c. search needs) field-len-requires add-at (λ c. search needs) add-done (λ c. search needs) loop-again same-length-2 returns-2)
