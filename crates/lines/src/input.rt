@@ -6,8 +6,8 @@ ghost use lib.ListN.{length};
 ghost use Rattle.lines.specs.Cut.{lineEnd};
 ghost use Rattle.lines.specs.Held.{Held};
 
-// How far the input is cut: the block's bytes from `at` to `end` are still to be cut; `filled` characters of the last line are held;
-// it was longer than there is room for, and none are held; it is whole.
+// How far the input is cut: the block's bytes from `at` to `end` are still to be cut; `filled` characters of the last line are held, none
+// where it is `long`, longer than there is room for; and whether it is whole.
 pub struct Reader {
     pub at: usize,
     pub end: usize,

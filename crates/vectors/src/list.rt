@@ -4,8 +4,8 @@ ghost use mathlib.Core.Path.{_≡_};
 ghost use Prim.Native.Nat.{_≤_, _<_};
 ghost use Rattle.vectors.specs.Buffers.{Buffers, Replayed};
 
-// How far the list is replayed: the length of the last schema's frame, the length of the answer's line to the last value, the lines read,
-// the answers compared, and those that differ. The last three would begin anew past 2^64, which no list reaches.
+// How far the list is replayed: the length of the last schema's frame, the length of the answer's line to the last value without its
+// newline, the lines read, the answers compared, and those that differ. The last three would begin anew past 2^64, which no list reaches.
 pub struct Replay {
     pub schema: usize,
     pub got: usize,
@@ -24,24 +24,6 @@ pub fn start() -> Replay
         compared: 0,
         differ: 0,
     }
-}
-
-// Whether the list's line is the program's, which has a newline more.
-fn same(line: &[u8], got: &[u8]) -> bool {
-    if got.len() <= line.len() {
-        return false;
-    }
-    if line.len() + 1 < got.len() {
-        return false;
-    }
-    let mut i: usize = 0;
-    while i < line.len() {
-        if line[i] != got[i] {
-            return false;
-        }
-        i += 1;
-    }
-    true
 }
 
 fn digit(c: u8) -> usize
@@ -80,6 +62,7 @@ fn report(place: u64, line: &[u8], got: &[u8]) {
     io::write_all(1, line);
     io::write_all(1, b", got ");
     io::write_all(1, got);
+    io::write_all(1, b"\n");
 }
 
 fn compare(r: Replay, line: &[u8], got: &[u8], counts: &mut [u64]) -> Replay
@@ -89,7 +72,7 @@ fn compare(r: Replay, line: &[u8], got: &[u8], counts: &mut [u64]) -> Replay
     let n = number(line);
     counts[n] = std::num::wrapping_add_u64(counts[n], 1);
     let compared = std::num::wrapping_add_u64(r.compared, 1);
-    if same(line, got) {
+    if check::same(line, got) {
         return Replay {
             schema: r.schema,
             got: r.got,
@@ -113,6 +96,13 @@ fn digits_at(n: usize) -> usize
     ensures { λ r. ⌜ r ≤ n ⌝ }
 {
     if n < 2 { n } else { 2 }
+}
+
+// The characters of a line before its newline.
+fn before_newline(n: usize) -> usize
+    ensures { λ r. ⌜ r ≤ n ⌝ }
+{
+    if n < 1 { n } else { n - 1 }
 }
 
 fn schema_line(r: Replay, line: &[u8], schema: &mut [u8]) -> Replay
@@ -147,7 +137,7 @@ fn value_line(
     let got = answers::answer(schema, &value[0..n], result, workspace, out);
     Replay {
         schema: r.schema,
-        got,
+        got: before_newline(got),
         lines: r.lines,
         compared: r.compared,
         differ: r.differ,

@@ -2,8 +2,6 @@ use Rattle.lines.proofs.LineLaws.{ok-line}
 use borrow.Author.Needs.{needs}
 use Rattle.lines.proofs.accepted.Statement.{statement}
 use Rattle.lines.proofs.accepted.Tie as tie
-use Rattle.lines.proofs.accepted.Reads as reads
-use Rattle.lines.proofs.accepted.Lts as lts
 
 mul-n : tie.Need-mul-n
 mul-n c = search needs

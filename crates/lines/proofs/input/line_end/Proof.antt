@@ -7,8 +7,6 @@ use Rattle.lines.specs.Cut.{lineEnd}
 use Rattle.lines.proofs.CutLaws.{end-here, end-past, end-none}
 use Rattle.lines.proofs.input.line_end.Statement.{statement}
 use Rattle.lines.proofs.input.line_end.Tie as tie
-use Rattle.lines.proofs.input.line_end.Reads as reads
-use Rattle.lines.proofs.input.line_end.Lts as lts
 
 -- The loop's invariant: no newline stands in front of the place. The measure is what is left of the characters. Assumes nothing.
 
