@@ -1,1 +1,3 @@
-pub mod Program
+pub mod Cut
+pub mod Held
+pub mod Line

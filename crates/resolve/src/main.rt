@@ -1,41 +1,73 @@
 // Program resolve: lines of hexadecimal from standard input, the schema first and then values; a line to standard output for each value.
-mod answer;
-mod input;
+// What is read and written has no contract in the language. So the lines' frames and answers are proved (crates lines and answers), and that the
+// lines are handed on in order is to be read here.
+use lines::input::Reader;
+ghost use Prim.Native.Nat.{_≤_};
+ghost use lib.ListN.{length};
+ghost use Rattle.lines.specs.Held.{Held};
+ghost use Rattle.resolve.specs.Buffers.{Buffers};
 
-ghost use Rattle.resolve.specs.Steady.{Steady, Buffers};
-
-// How far the program has come: whether the schema's line is read, and the length of its frame; the characters of the line
-// that is being read, 131,073 where there are more than 131,072; and the bytes that wait to be written.
-pub struct State {
-    pub started: bool,
-    pub schema: usize,
-    pub filled: usize,
-    pub written: usize,
+// Writes what waits once the longest line might not fit behind it; the bytes that wait then.
+fn flushed(waits: usize, out: &[u8]) -> usize
+    requires { ⌜ waits ≤ length (now out) ⌝ }
+    ensures { λ r. ⌜ r ≤ 131071 ⌝ }
+{
+    if waits <= 131071 {
+        return waits;
+    }
+    io::write_all(1, &out[0..waits]);
+    0
 }
 
-// The last line may lack its newline. Then all that waits is written.
-fn finish(
-    s: State,
+// The answer to a value's line, behind the bytes that wait; the bytes that wait then.
+fn value_line(
     line: &[u8],
-    schema: &mut [u8],
+    schema: &[u8],
     value: &mut [u8],
     result: &mut [u8],
     workspace: &mut [u8],
     out: &mut [u8],
-)
-    requires { ⌜ Steady s × Buffers (now line) (now schema) (now value) (now result) (now out) ⌝ }
+    waits: usize,
+) -> usize
+    requires { ⌜ Buffers (now value) (now result) (now workspace) (now out) × (waits ≤ 131071) ⌝ }
+    ensures { λ r. ⌜ r ≤ 131071 ⌝ }
 {
-    if 0 < s.filled {
-        let t = input::ended(s, line, schema, value, result, workspace, out);
-        let w = t.written;
-        io::write_all(1, &out[0..w]);
-        return;
-    }
-    let w = s.written;
-    io::write_all(1, &out[0..w]);
+    let n = lines::frame(line, value);
+    let more = answers::answer(schema, &value[0..n], result, workspace, &mut out[waits..]);
+    flushed(waits + more, out)
 }
 
+// The values; the bytes that wait at the end.
 // A proved loop has to end, and nothing says that the input does. So the turns are counted down from a number that no run uses up.
+fn values(
+    start: Reader,
+    block: &mut [u8],
+    line: &mut [u8],
+    schema: &[u8],
+    value: &mut [u8],
+    result: &mut [u8],
+    workspace: &mut [u8],
+    out: &mut [u8],
+) -> usize
+    requires { ⌜ Held start (now block) (now line) × Buffers (now value) (now result) (now workspace) (now out) ⌝ }
+    ensures { λ r. ⌜ r ≤ length (now (out .exit)) ⌝ }
+{
+    let mut r = start;
+    let mut waits: usize = 0;
+    let mut turns = u64::MAX;
+    while turns > 0 {
+        r = lines::input::next(r, block, line);
+        if !r.whole {
+            return waits;
+        }
+        let n = r.filled;
+        waits = value_line(&line[0..n], schema, value, result, workspace, out, waits);
+        turns -= 1;
+    }
+    waits
+}
+
+// The schema's line, and then the values. A line too long for its buffer is longer than any frame, and counts as no frame.
 fn run(
     block: &mut [u8],
     line: &mut [u8],
@@ -45,20 +77,13 @@ fn run(
     workspace: &mut [u8],
     out: &mut [u8],
 )
-    requires { ⌜ Buffers (now line) (now schema) (now value) (now result) (now out) ⌝ }
+    requires { ⌜ Buffers (now value) (now result) (now workspace) (now out) ⌝ }
 {
-    let mut s = input::start();
-    let mut turns = u64::MAX;
-    while turns > 0 {
-        let got = libc::read(0, block);
-        if got <= 0 {
-            break;
-        }
-        let n = io::count(got, block);
-        s = input::block(s, &block[0..n], line, schema, value, result, workspace, out);
-        turns -= 1;
-    }
-    finish(s, line, schema, value, result, workspace, out);
+    let r = lines::input::next(lines::input::start(), block, line);
+    let filled = r.filled;
+    let n = lines::frame(&line[0..filled], schema);
+    let waits = values(r, block, line, &schema[0..n], value, result, workspace, out);
+    io::write_all(1, &out[0..waits]);
 }
 
 fn main() {

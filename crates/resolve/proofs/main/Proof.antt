@@ -1,6 +1,6 @@
-use borrow.Author.Needs.{needs}
 use Prim.Native.Nat.{ℕ}
 use lib.ListN.{length-replicate}
+use borrow.Author.Needs.{needs}
 use Rattle.resolve.proofs.main.Statement.{statement}
 use Rattle.resolve.proofs.main.Tie as tie
 
@@ -28,10 +28,9 @@ slice-aggregate-run-7 c = search needs
 run-requires : tie.Need-run-requires
 run-requires c κs =
     record {
-      of-line = length-replicate {A = ℕ} 131072 0;
-      of-schema = length-replicate {A = ℕ} 65536 0;
       of-value = length-replicate {A = ℕ} 65536 0;
       of-result = length-replicate {A = ℕ} 65535 0;
+      of-workspace = length-replicate {A = ℕ} 65536 0;
       of-out = length-replicate {A = ℕ} 262144 0;
     }
 
