@@ -1,5 +1,5 @@
 -- Writing a line into a slice, and the frame that a line stands for. Assumes nothing.
-use Prim.Native.Nat.{ℕ, suc, _+_, _-_, _*_, _/_, _≤_, _<_}
+use Prim.Native.Nat.{ℕ, suc, _+_, _-_, _*_, _/_, _≤_}
 use mathlib.Core.Path.{_≡_, refl, sym, ap, _∙_}
 use mathlib.Core.List.{List, [], _∷_, _++_, append-assoc, append-nil}
 use mathlib.Core.Option.{Option, none, some, Option·getD}
@@ -7,11 +7,10 @@ use mathlib.Core.Logic.{_⊎_, ⊎-elim}
 use mathlib.Core.Bool.{Bool, true, false}
 use native.Mathlib.Omega.{arith}
 use native.Mathlib.Numerals.{add-one}
-use borrow.Author.Tests.{lt-ltb, le-ltb}
 use lib.Dec.{ltb}
 use lib.ListN.{length, getD, take, drop, set, length-append, length-drop, drop-of-length-le, take-append-drop}
 use lib.Seq.{take-all, take-at, drop-at, drop-cons, drop-drop, set-at, length-take-le}
-use Rattle.base.specs.Base.{if_then_else_, Result, ok, no}
+use Rattle.base.specs.Base.{if_then_else_, ok, no}
 use Rattle.text.specs.Text.{Text, ascii}
 use Rattle.uuid.specs.Uuid.{hexBytes}
 use Rattle.hex.specs.Hex.{frameOf, hexOf, decimal}

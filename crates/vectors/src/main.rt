@@ -6,7 +6,6 @@ mod list;
 use crate::list::Replay;
 ghost use lib.ListN.{length};
 ghost use mathlib.Core.Path.{_≡_};
-ghost use Rattle.lines.specs.Held.{Held};
 ghost use Rattle.vectors.specs.Buffers.{Buffers};
 
 // A proved loop has to end, and nothing says that the input does. So the turns are counted down from a number that no run uses up.

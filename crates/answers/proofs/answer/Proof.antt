@@ -1,4 +1,4 @@
-use mathlib.Core.Path.{_≡_, sym}
+use mathlib.Core.Path.{sym}
 use native.Mathlib.Omega.{arith}
 use Rattle.answers.proofs.AnswerLaws.{accepted-is, refused-is, answered}
 use borrow.Author.Needs.{needs}
