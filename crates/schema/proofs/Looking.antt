@@ -8,7 +8,8 @@ use native.Mathlib.Omega.{arith}
 use lib.Dec.{T, eqb}
 use lib.ListN.{length, length-set, getD, set, drop}
 use lib.Seq.{drop-drop, drop-cons, getD-set-same, getD-set-other}
-use borrow.Author.Tests.{eqb-true, eqb-false}
+use borrow.Author.Tests.{eqb-true, eqb-false, eq-eqb}
+use Rattle.base.specs.Base.{if_then_else_}
 use Rattle.text.specs.Text.{Text, same}
 use Rattle.text.specs.Read.{Read, _>>=_, readCounted}
 use Rattle.text.specs.Measured.{Reads}
@@ -19,7 +20,7 @@ use Rattle.frame.specs.SchemaFrame.{fieldsOf, readField}
 use Rattle.frame.specs.Sound.{hasField}
 use Rattle.frame.specs.Checks.{Spans}
 use Rattle.schema.specs.Parts.{Field, namesDiffer}
-use Rattle.schema.specs.Slot.{hashFrom, slots, lowOf, highOf}
+use Rattle.schema.specs.Slot.{hashFrom, slots, lowOf, highOf, markOf, marked, mayBe, nameMark}
 use Rattle.schema.proofs.Reading.{read-what, read-rest, bind-some}
 use Rattle.schema.proofs.Seeking.{Left, First, many-first, left-start, left-first, left-step, left-end, reads-some, list-long}
 use Rattle.schema.proofs.Checking.{seeks, name-is}
@@ -51,9 +52,48 @@ high-inside false h = omega arith
 
 -- ---- the slots that names took
 
+-- each name's slot may be its own
 unfoldable pub Taken : (Text → ℕ) → List ℕ → List Field → Type 0
 Taken key t [] = Unit {0}
-Taken key t (f ∷ fs) = (getD t (key (f .0)) 0 ≡ 0 → ⊥) × Taken key t fs
+Taken key t (f ∷ fs) = (mayBe (getD t (key (f .0)) 0) (nameMark (f .0)) ≡ true) × Taken key t fs
+
+mark-there : (b v : ℕ) → mayBe (marked b v) v ≡ true
+unfolding mayBe marked
+mark-there b v = go (eqb b 0) (eqb b v)
+  where
+    own : eqb v v || eqb v 255 ≡ true
+    own = rw (eq-eqb v v refl) refl
+
+    go : (x y : Bool) → mayBe (if x then v else if y then v else 255) v ≡ true
+    go true y = own
+    go false true = own
+    go false false = or-true (eqb 255 v)
+      where
+        or-true : (z : Bool) → z || true ≡ true
+        or-true true = refl
+        or-true false = refl
+
+mark-stays : (b v w : ℕ) → (w ≡ 0 → ⊥) → mayBe b w ≡ true → mayBe (marked b v) w ≡ true
+unfolding mayBe marked
+mark-stays b v w n e = go (eqb b 0) refl (eqb b v) refl
+  where
+    or-true : (z : Bool) → z || true ≡ true
+    or-true true = refl
+    or-true false = refl
+
+    zero-not : (x y : Bool) → eqb b w ≡ x → eqb b 255 ≡ y → x || y ≡ true → b ≡ 0 → ⊥
+    zero-not true y p q h z = n (sym (eqb-true b w p) ∙ z)
+    zero-not false true p q h z = omega (arith, eqb-true b 255 q)
+    zero-not false false p q h z = let c : _≡_ {A = ℕ} 0 1 = cc in omega arith
+
+    go : (x : Bool) → eqb b 0 ≡ x → (y : Bool) → eqb b v ≡ y → mayBe (if x then v else if y then v else 255) w ≡ true
+    go true p y q = absurd (zero-not (eqb b w) (eqb b 255) refl refl e (eqb-true b 0 p))
+    go false p true q = ap (λ k. mayBe k w) (sym (eqb-true b v q)) ∙ e
+    go false p false q = or-true (eqb 255 w)
+
+mark-some : (t : Text) → nameMark t ≡ 0 → ⊥
+unfolding nameMark markOf
+mark-some t e = omega arith
 
 same-true : (a b : Text) → same a b ≡ true → a ≡ b
 same-true a b e = same→≡ a b (subst T (sym e) tt)
@@ -67,35 +107,36 @@ same-sym a b false e = go (same b a) refl
     go false g = g
 
 module _ (key : Text → ℕ) (t : List ℕ) where
-  -- a name whose slot is free
-  pub free-new : (n : Text) (fs : List Field) → Taken key t fs → getD t (key n) 0 ≡ 0 → seeks n fs ≡ false
+  -- a name whose mark is missing
+  pub free-new : (n : Text) (fs : List Field) → Taken key t fs → mayBe (getD t (key n) 0) (nameMark n) ≡ false → seeks n fs ≡ false
   unfolding Taken hasField fieldsOf
   free-new n [] w e = refl
   free-new n (f ∷ fs) w e = go (same (f .0) n) refl (free-new n fs (w .1) e)
     where
       go : (x : Bool) → same (f .0) n ≡ x → seeks n fs ≡ false → same (f .0) n || seeks n fs ≡ false
-      go true g h = absurd (w .0 (ap (λ m. getD t (key m) 0) (same-true (f .0) n g) ∙ e))
+      go true g h = let z : true ≡ false = sym (w .0) ∙ ap (λ m. mayBe (getD t (key m) 0) (nameMark m)) (same-true (f .0) n g) ∙ e in let y : _≡_ {A = ℕ} 0 1 = cc in absurd (omega arith)
       go false g h = ap (λ x. x || seeks n fs) g ∙ h
 
-  still : (k j : ℕ) → k < length t → (getD t j 0 ≡ 0 → ⊥) → getD (set t k 1) j 0 ≡ 0 → ⊥
-  still k j h f e = go (eqb j k) refl
+  still : (k j v : ℕ) → k < length t → (w : ℕ) → (w ≡ 0 → ⊥) → mayBe (getD t j 0) w ≡ true → mayBe (getD (set t k (marked (getD t k 0) v)) j 0) w ≡ true
+  still k j v h w n e = go (eqb j k) refl
     where
-      go : (x : Bool) → eqb j k ≡ x → ⊥
+      go : (y : Bool) → eqb j k ≡ y → mayBe (getD (set t k (marked (getD t k 0) v)) j 0) w ≡ true
       go true g =
-          let z : getD (set t k 1) k 0 ≡ 0 = ap (λ i. getD (set t k 1) i 0) (sym (eqb-true j k g)) ∙ e in
-          omega (arith, getD-set-same t k 1 0 h)
-      go false g = f (sym (getD-set-other t k j 1 0 (eqb-false j k g)) ∙ e)
+          let q : j ≡ k = eqb-true j k g in
+          ap (λ i. mayBe (getD (set t k (marked (getD t k 0) v)) i 0) w) q ∙ ap (λ b. mayBe b w) (getD-set-same t k (marked (getD t k 0) v) 0 h) ∙ mark-stays (getD t k 0) v w n (ap (λ i. mayBe (getD t i 0) w) (sym q) ∙ e)
+      go false g = ap (λ b. mayBe b w) (getD-set-other t k j (marked (getD t k 0) v) 0 (eqb-false j k g)) ∙ e
 
-  pub taken-still : (k : ℕ) → k < length t → (fs : List Field) → Taken key t fs → Taken key (set t k 1) fs
+  pub taken-still : (k v : ℕ) → k < length t → (fs : List Field) → Taken key t fs → Taken key (set t k (marked (getD t k 0) v)) fs
   unfolding Taken
-  taken-still k h [] w = w
-  taken-still k h (g ∷ fs) w = (still k (key (g .0)) h (w .0), taken-still k h fs (w .1))
+  taken-still k v h [] w = w
+  taken-still k v h (g ∷ fs) w = (still k (key (g .0)) v h (nameMark (g .0)) (mark-some (g .0)) (w .0), taken-still k v h fs (w .1))
 
   -- one more takes its slot
-  pub taken-more : (k : ℕ) → k < length t → (fs : List Field) (f : Field) → k ≡ key (f .0) → Taken key t fs → Taken key (set t k 1) (fs ++ (f ∷ []))
+  pub taken-more : (k v : ℕ) → k < length t → (fs : List Field) (f : Field) → k ≡ key (f .0) → v ≡ nameMark (f .0) → Taken key t fs → Taken key (set t k (marked (getD t k 0) v)) (fs ++ (f ∷ []))
   unfolding Taken
-  taken-more k h [] f q w = ((λ e. omega (arith, getD-set-same t k 1 0 h, ap (λ i. getD (set t k 1) i 0) q, e)), tt)
-  taken-more k h (g ∷ fs) f q w = (still k (key (g .0)) h (w .0), taken-more k h fs f q (w .1))
+  taken-more k v h [] f q m w =
+      (ap (λ i. mayBe (getD (set t k (marked (getD t k 0) v)) i 0) (nameMark (f .0))) (sym q) ∙ ap (λ b. mayBe b (nameMark (f .0))) (getD-set-same t k (marked (getD t k 0) v) 0 h) ∙ ap (mayBe (marked (getD t k 0) v)) (sym m) ∙ mark-there (getD t k 0) v, tt)
+  taken-more k v h (g ∷ fs) f q m w = (still k (key (g .0)) v h (nameMark (g .0)) (mark-some (g .0)) (w .0), taken-more k v h fs f q m (w .1))
 
 -- ---- names before and behind
 
@@ -120,7 +161,7 @@ or-none : (a b : Bool) → a || b ≡ false → (a ≡ false) × (b ≡ false)
 or-none true b e = let z : _≡_ {A = ℕ} 0 1 = cc in absurd (omega arith)
 or-none false b e = (refl, e)
 
-not-true : (a : Bool) → not a ≡ true → a ≡ false
+pub not-true : (a : Bool) → not a ≡ true → a ≡ false
 not-true true e = let z : _≡_ {A = ℕ} 0 1 = cc in absurd (omega arith)
 not-true false e = refl
 
@@ -200,15 +241,15 @@ module _ (node : List ℕ → Read Schema) (low high : Text → ℕ) (s : List �
     pub looking-reads : Reads (readMany (readField node) done (drop 2 s))
     looking-reads = reads-some _ (w .before) (drop at s) (w .front)
 
-    free : (key : Text → ℕ) → Taken key table (w .before) → (n : Text) (k : ℕ) → k ≡ key n → getD table k 0 ≡ 0 → (fs : List Field) (u : List ℕ) → readMany (readField node) done (drop 2 s) ≡ some (fs, u) → seeks n fs ≡ false
-    free key t n k q e fs u g =
-        ap (seeks n) (sym (read-what (sym (w .front) ∙ g))) ∙ free-new key table n (w .before) t (ap (λ i. getD table i 0) (sym q) ∙ e)
+    free : (key : Text → ℕ) → Taken key table (w .before) → (n : Text) (k v : ℕ) → k ≡ key n → v ≡ nameMark n → mayBe (getD table k 0) v ≡ false → (fs : List Field) (u : List ℕ) → readMany (readField node) done (drop 2 s) ≡ some (fs, u) → seeks n fs ≡ false
+    free key t n k v q m e fs u g =
+        ap (seeks n) (sym (read-what (sym (w .front) ∙ g))) ∙ free-new key table n (w .before) t (ap (λ i. mayBe (getD table i 0) (nameMark n)) (sym q) ∙ ap (mayBe (getD table k 0)) (sym m) ∙ e)
 
-    -- a slot is free
-    pub looking-low : (n : Text) (k : ℕ) → k ≡ low n → getD table k 0 ≡ 0 → (fs : List Field) (u : List ℕ) → readMany (readField node) done (drop 2 s) ≡ some (fs, u) → seeks n fs ≡ false
+    -- a mark is missing
+    pub looking-low : (n : Text) (k v : ℕ) → k ≡ low n → v ≡ nameMark n → mayBe (getD table k 0) v ≡ false → (fs : List Field) (u : List ℕ) → readMany (readField node) done (drop 2 s) ≡ some (fs, u) → seeks n fs ≡ false
     looking-low = free low (w .taken-low)
 
-    pub looking-high : (n : Text) (k : ℕ) → k ≡ high n → getD table k 0 ≡ 0 → (fs : List Field) (u : List ℕ) → readMany (readField node) done (drop 2 s) ≡ some (fs, u) → seeks n fs ≡ false
+    pub looking-high : (n : Text) (k v : ℕ) → k ≡ high n → v ≡ nameMark n → mayBe (getD table k 0) v ≡ false → (fs : List Field) (u : List ℕ) → readMany (readField node) done (drop 2 s) ≡ some (fs, u) → seeks n fs ≡ false
     looking-high = free high (w .taken-high)
 
     pub looking-end : left ≤ 0 → (fs : List Field) (u : List ℕ) → readList (readField node) s ≡ some (fs, u) → true ≡ namesDiffer fs
@@ -234,17 +275,17 @@ module _ (node : List ℕ → Read Schema) (low high : Text → ℕ) (s : List �
       looking-hit t fs u e =
           sym (ap namesDiffer (w .rest .tells fs u e ∙ ap (λ l. w .before ++ l) (next .cons)) ∙ differ-not (w .before) (next .item) (next .others) (sym seen ∙ t))
 
-      pub looking-step : has ≡ false → (j k : ℕ) → j ≡ low name → k ≡ high name → j < length table → k < length table → (m : ℕ) → Spans (readField node (drop at s)) (drop at s) m → Looking node low high s (set (set table j 1) k 1) (left - 1) (at + m) (done + 1)
-      looking-step t j k p q i l m z = record {
+      step : has ≡ false → (j k x : ℕ) → j ≡ low name → k ≡ high name → x ≡ nameMark name → j < length table → k < length table → (m : ℕ) → Spans (readField node (drop at s)) (drop at s) m → Looking node low high s (set (set table j (marked (getD table j 0) x)) k (marked (getD (set table j (marked (getD table j 0) x)) k 0) x)) (left - 1) (at + m) (done + 1)
+      step t j k x p q y i l m z = record {
         before = w .before ++ (next .item ∷ []);
         rest = left-step _ (readField node) (λ l. l) (λ l. w .before ++ l) s at left (w .rest) (λ l. w .before ++ (next .item ∷ []) ++ l) h m z (sym (append-assoc (w .before) (next .item ∷ []) (next .others)));
         front = ap (λ k. readMany (readField node) k (drop 2 s)) one-more ∙ many-more (readField node) done (drop 2 s) (w .before) (drop at s) (next .item) (drop (at + m) s) (w .front) (next .first ∙ ap (λ r. some (next .item, r)) behind);
         differ = differ-more (w .before) (next .item) (w .differ) (sym seen ∙ t);
-        taken-low = taken-still low (set table j 1) k inside (w .before ++ (next .item ∷ [])) (taken-more low table j i (w .before) (next .item) (p ∙ ap low named) (w .taken-low));
-        taken-high = taken-more high (set table j 1) k inside (w .before) (next .item) (q ∙ ap high named) (taken-still high table j i (w .before) (w .taken-high));
+        taken-low = taken-still low (set table j (marked (getD table j 0) x)) k x inside (w .before ++ (next .item ∷ [])) (taken-more low table j x i (w .before) (next .item) (p ∙ ap low named) (y ∙ ap nameMark named) (w .taken-low));
+        taken-high = taken-more high (set table j (marked (getD table j 0) x)) k x inside (w .before) (next .item) (q ∙ ap high named) (y ∙ ap nameMark named) (taken-still high table j x i (w .before) (w .taken-high));
       }
         where
-          inside : k < length (set table j 1)
+          inside : k < length (set table j (marked (getD table j 0) x))
           inside = simp length-set l
 
           one-more : done + 1 ≡ suc done
@@ -252,3 +293,9 @@ module _ (node : List ℕ → Read Schema) (low high : Text → ℕ) (s : List �
 
           behind : next .behind ≡ drop (at + m) s
           behind = spans-behind _ (drop at s) m z (next .item) (next .behind) (next .first) ∙ drop-drop m at s
+
+      pub looking-step : has ≡ false → (j k x a b : ℕ) → j ≡ low name → k ≡ high name → x ≡ nameMark name → j < length table → k < length table → a ≡ marked (getD table j 0) x → b ≡ marked (getD (set table j a) k 0) x
+          → (m : ℕ) → Spans (readField node (drop at s)) (drop at s) m → Looking node low high s (set (set table j a) k b) (left - 1) (at + m) (done + 1)
+      looking-step t j k x a b p q y i l ea eb m z =
+          subst (λ c. Looking node low high s (set (set table j a) k c) (left - 1) (at + m) (done + 1)) (sym eb)
+          (subst (λ c. Looking node low high s (set (set table j c) k (marked (getD (set table j c) k 0) x)) (left - 1) (at + m) (done + 1)) (sym ea) (step t j k x p q y i l m z))

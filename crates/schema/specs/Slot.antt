@@ -1,7 +1,9 @@
--- The two slots of a name in a table of 2,048 or 32,768, one in each half: equal names have the same ones.
+-- The two slots of a name in a table of 2,048 or 32,768, one in each half, and what stands there: equal names have the same.
 use Prim.Native.Nat.{ℕ, _+_, _*_, _/_, _%_}
 use mathlib.Core.List.{List, [], _∷_}
-use mathlib.Core.Bool.{Bool, true, false}
+use mathlib.Core.Bool.{Bool, true, false, _||_}
+use lib.Dec.{eqb}
+use Rattle.base.specs.Base.{if_then_else_}
 use Rattle.text.specs.Text.{Text}
 
 -- a number below 2^32 that depends on every byte
@@ -27,3 +29,17 @@ lowSlot few t = lowOf few (hashFrom 0 t)
 
 unfoldable pub highSlot : Bool → Text → ℕ
 highSlot few t = highOf few (hashFrom 0 t)
+
+-- a name's mark, and what a slot holds once a name took it: its mark, or 255 where it had another
+unfoldable pub markOf : ℕ → ℕ
+markOf h = 1 + h % 251
+
+unfoldable pub marked : ℕ → ℕ → ℕ
+marked b v = if eqb b 0 then v else if eqb b v then v else 255
+
+-- a slot may be that of a name with the mark v
+unfoldable pub mayBe : ℕ → ℕ → Bool
+mayBe b v = eqb b v || eqb b 255
+
+unfoldable pub nameMark : Text → ℕ
+nameMark t = markOf (hashFrom 0 t)

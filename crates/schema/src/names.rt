@@ -1,5 +1,5 @@
-// The names of a record's fields: whether one stands twice. Each name takes two slots of a table; one of which a slot is still free
-// is new, and only the others are looked for among the earlier fields.
+// The names of a record's fields: whether one stands twice. Each name leaves its mark in two slots of a table; one whose mark is
+// missing there is new, and only the others are looked for among the earlier fields.
 use crate::skip::field_len;
 use number::read2;
 ghost use mathlib.Core.Path.{_≡_};
@@ -13,7 +13,7 @@ ghost use Rattle.frame.specs.Readers.{readMany, readList};
 ghost use Rattle.frame.specs.SchemaFrame.{readField, readSchema, fieldsOf};
 ghost use Rattle.frame.specs.Sound.{hasField};
 ghost use Rattle.schema.specs.Parts.{Field, namesDiffer};
-ghost use Rattle.schema.specs.Slot.{hashFrom, slots, lowOf, highOf};
+ghost use Rattle.schema.specs.Slot.{hashFrom, slots, lowOf, highOf, markOf, marked, mayBe};
 
 // A number that equal names share.
 fn hash(name: &[u8]) -> usize
@@ -48,6 +48,36 @@ fn high_slot(h: usize, few: bool) -> usize
     16384 + h / 65536 % 16384
 }
 
+// The mark of a name.
+fn mark(h: usize) -> u8
+    ensures { λ r. ⌜ r ≡ markOf h ⌝ }
+{
+    1 + ((h % 251) as u8)
+}
+
+// What a slot holds once a name with the mark v took it.
+fn take(slot: u8, v: u8) -> u8
+    ensures { λ r. ⌜ r ≡ marked slot v ⌝ }
+{
+    if slot == 0 {
+        return v;
+    }
+    if slot == v {
+        return v;
+    }
+    255
+}
+
+// Whether a slot may be that of a name with the mark v.
+fn may_be(slot: u8, v: u8) -> bool
+    ensures { λ r. ⌜ r ≡ mayBe slot v ⌝ }
+{
+    if slot == v {
+        return true;
+    }
+    slot == 255
+}
+
 // Whether one of the n fields at the front of a part has the name.
 fn has_field(s: &[u8], n: usize, name: &[u8], depth: usize) -> bool
     requires { ⌜ Reads (readMany (readField (readSchema depth)) n (now s)) ⌝ }
@@ -66,15 +96,15 @@ fn has_field(s: &[u8], n: usize, name: &[u8], depth: usize) -> bool
     false
 }
 
-// The same, where none has it if one of its slots is free.
-fn repeats(low: u8, high: u8, s: &[u8], n: usize, name: &[u8], depth: usize) -> bool
-    requires { ⌜ Reads (readMany (readField (readSchema depth)) n (now s)) × ((fs : List Field) (u : List ℕ) → readMany (readField (readSchema depth)) n (now s) ≡ some (fs, u) → low ≡ 0 → hasField (now name) (fieldsOf fs) ≡ false) × ((fs : List Field) (u : List ℕ) → readMany (readField (readSchema depth)) n (now s) ≡ some (fs, u) → high ≡ 0 → hasField (now name) (fieldsOf fs) ≡ false) ⌝ }
+// The same, where none has it if one of its slots says so.
+fn repeats(low: bool, high: bool, s: &[u8], n: usize, name: &[u8], depth: usize) -> bool
+    requires { ⌜ Reads (readMany (readField (readSchema depth)) n (now s)) × ((fs : List Field) (u : List ℕ) → readMany (readField (readSchema depth)) n (now s) ≡ some (fs, u) → low ≡ false → hasField (now name) (fieldsOf fs) ≡ false) × ((fs : List Field) (u : List ℕ) → readMany (readField (readSchema depth)) n (now s) ≡ some (fs, u) → high ≡ false → hasField (now name) (fieldsOf fs) ≡ false) ⌝ }
     ensures { λ r. ⌜ ((fs : List Field) (u : List ℕ) → readMany (readField (readSchema depth)) n (now (s .entry)) ≡ some (fs, u) → r ≡ hasField (now (name .entry)) (fieldsOf fs)) ⌝ }
 {
-    if low == 0 {
+    if !low {
         return false;
     }
-    if high == 0 {
+    if !high {
         return false;
     }
     has_field(s, n, name, depth)
@@ -93,11 +123,14 @@ fn differ_by(s: &[u8], depth: usize, few: bool, table: &mut [u8]) -> bool
         let h = hash(name);
         let j = low_slot(h, few);
         let k = high_slot(h, few);
-        if repeats(table[j], table[k], &s[2..], done, name, depth) {
+        let v = mark(h);
+        let low = may_be(table[j], v);
+        let high = may_be(table[k], v);
+        if repeats(low, high, &s[2..], done, name, depth) {
             return false;
         }
-        table[j] = 1;
-        table[k] = 1;
+        table[j] = take(table[j], v);
+        table[k] = take(table[k], v);
         at += field_len(&s[at..], depth);
         left -= 1;
         done += 1;

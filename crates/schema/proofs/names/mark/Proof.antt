@@ -1,0 +1,14 @@
+-- `schema::names::mark` meets its contract. Assumes nothing.
+use mathlib.Core.Path.{refl}
+use native.Mathlib.Omega.{arith}
+use Rattle.schema.specs.Slot.{markOf}
+use borrow.Author.Needs.{needs}
+use Rattle.schema.proofs.names.mark.Statement.{statement}
+use Rattle.schema.proofs.names.mark.Tie as tie
+
+returns : tie.Need-returns
+unfolding markOf
+returns c = refl
+
+pub mark-spec : {M : Type 1} → statement M
+mark-spec = tie.close (tie.spec (λ c. search needs) (λ c. search needs) returns)
