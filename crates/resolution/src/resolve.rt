@@ -151,7 +151,7 @@ fn keyed(s: &[u8], v: &[u8], out: &mut [u8], ds: usize, dv: usize) -> Answer
     requires { ⌜ Ready ds (now s) × Reads (readValue dv (now v)) × (getD (now s) 0 0 ≡ 11) × Keyed (now v) ⌝ }
     ensures { λ r. ⌜ Wrote (onBoth peeledBytes (readSchema ds (now (s .entry))) (readValue dv (now (v .entry)))) (now (out .exit)) r ⌝ }
 {
-    if number::read2(v, 1) <= 16 {
+    if number::read2(v, 1) <= 8 {
         let none = [0u16; 1];
         return fields(s, v, out, ds, dv, &none, false);
     }

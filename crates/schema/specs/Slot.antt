@@ -1,4 +1,4 @@
--- The two slots of a name in a table of 2,048 or 32,768, one in each half, and what stands there: equal names have the same.
+-- The two slots of a name in a table of 2,048 or 8,192, one in each half, and what stands there: equal names have the same.
 use Prim.Native.Nat.{ℕ, _+_, _*_, _/_, _%_}
 use mathlib.Core.List.{List, [], _∷_}
 use mathlib.Core.Bool.{Bool, true, false, _||_}
@@ -13,16 +13,16 @@ hashFrom h (b ∷ bs) = hashFrom ((h * 16777619 + b) % 4294967296) bs
 
 unfoldable pub slots : Bool → ℕ
 slots true = 2048
-slots false = 32768
+slots false = 8192
 
 -- by the low bits, and by the high ones
 unfoldable pub lowOf : Bool → ℕ → ℕ
 lowOf true h = h % 1024
-lowOf false h = h % 16384
+lowOf false h = h % 4096
 
 unfoldable pub highOf : Bool → ℕ → ℕ
 highOf true h = 1024 + h / 65536 % 1024
-highOf false h = 16384 + h / 65536 % 16384
+highOf false h = 4096 + h / 65536 % 4096
 
 unfoldable pub lowSlot : Bool → Text → ℕ
 lowSlot few t = lowOf few (hashFrom 0 t)

@@ -35,7 +35,7 @@ fn low_slot(h: usize, few: bool) -> usize
     if few {
         return h % 1024;
     }
-    h % 16384
+    h % 4096
 }
 
 // The slot in the upper half of the table.
@@ -45,7 +45,7 @@ fn high_slot(h: usize, few: bool) -> usize
     if few {
         return 1024 + h / 65536 % 1024;
     }
-    16384 + h / 65536 % 16384
+    4096 + h / 65536 % 4096
 }
 
 // The mark of a name.
@@ -147,6 +147,6 @@ pub fn names_differ(s: &[u8], depth: usize) -> bool
         let mut small = [0u8; 2048];
         return differ_by(s, depth, true, &mut small);
     }
-    let mut large = [0u8; 32768];
+    let mut large = [0u8; 8192];
     differ_by(s, depth, false, &mut large)
 }
