@@ -25,18 +25,11 @@ const HEAD: [&str; COLUMNS] = [
 fn main() -> ExitCode {
     let rounds = std::env::args().nth(1).and_then(|n| n.parse().ok()).unwrap_or(40);
     let clearing = time::clearing(hulmbax::WORKSPACE, rounds);
-    println!(
-        "Least of {rounds} runs. Lengths of schema and value in bytes; then nanoseconds per call, nanoseconds"
-    );
-    println!(
-        "per byte of value (B), and the crate's time over Hulmbax's. crate: the schema frame is read in each"
-    );
-    println!(
-        "call; kept: once for all. Hulmbax reads and checks it in each call, and clears its workspace of"
-    );
-    println!(
-        "65,536 bytes in each; such a fill alone takes {clearing:.0} ns. No buffer is cleared before a call."
-    );
+    println!("Least of {rounds} runs. Lengths of schema and value in bytes; then nanoseconds per call,");
+    println!("nanoseconds per byte of value (B), and the crate's time over Hulmbax's. crate: the schema");
+    println!("frame is read in each call; kept: once for all. Hulmbax reads and checks it in each call,");
+    println!("and clears its workspace of 65,536 bytes in each; such a fill alone takes {clearing:.0} ns.");
+    println!("No buffer is cleared before a call.");
     let tables: [(&str, Vec<Row>); 5] = [
         ("Frames", rows::rows()),
         ("Fields in one record", rows::fields()),
