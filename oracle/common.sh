@@ -51,6 +51,8 @@ build_archive() {
   HULMBAX_ARCHIVE=$(realpath "${HULMBAX_ARCHIVE:-$root/target/staticlib/libhulmbax.a}")
   export HULMBAX_ARCHIVE
   [ -e "$HULMBAX_ARCHIVE" ] || stop "no archive $HULMBAX_ARCHIVE"
+  # the linker finds it by this name in its folder
+  [ "$(basename "$HULMBAX_ARCHIVE")" = libhulmbax.a ] || stop "$HULMBAX_ARCHIVE must be called libhulmbax.a"
 }
 
 run_rt() {

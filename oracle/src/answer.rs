@@ -16,7 +16,7 @@ use std::panic::{AssertUnwindSafe, catch_unwind};
 type Names = HashMap<Name, AvroSchema>;
 
 /// The number of document 01 for an error of the crate.
-fn number(e: &Error) -> u8 {
+pub fn number(e: &Error) -> u8 {
     use Details::*;
     match e.details() {
         GetNull(_)

@@ -1,0 +1,86 @@
+//! Program `bench`: the crate and Hulmbax timed on the same frames. See README.md.
+mod hulmbax;
+mod lean;
+mod rows;
+mod time;
+
+use rows::Row;
+use std::process::ExitCode;
+
+const COLUMNS: usize = 11;
+const HEAD: [&str; COLUMNS] = [
+    "",
+    "schema",
+    "value",
+    "crate",
+    "kept",
+    "Hulmbax",
+    "crate/B",
+    "kept/B",
+    "Hulmbax/B",
+    "crate : H",
+    "kept : H",
+];
+
+fn main() -> ExitCode {
+    let rounds = std::env::args().nth(1).and_then(|n| n.parse().ok()).unwrap_or(40);
+    let clearing = time::clearing(hulmbax::WORKSPACE, rounds);
+    println!("Least of {rounds} runs. Lengths of schema and value in bytes; then nanoseconds per call,");
+    println!("nanoseconds per byte of value (B), and the crate's time over Hulmbax's. crate: the schema");
+    println!("frame is read in each call; kept: once for all. Hulmbax reads and checks it in each call,");
+    println!("and clears its workspace of 65,536 bytes in each; such a fill alone takes {clearing:.0} ns.");
+    println!("No buffer is cleared before a call.");
+    let tables: [(&str, Vec<Row>); 5] = [
+        ("Frames", rows::rows()),
+        ("Fields in one record", rows::fields()),
+        ("Depth, records in records", rows::depths()),
+        ("Unions in unions, named_index twice, accepted", rows::unions_accepted()),
+        ("Unions in unions, named_index twice, refused (16)", rows::unions_refused()),
+    ];
+    let differ: usize = tables.iter().map(|(title, rows)| table(title, rows, rounds)).sum();
+    println!("\n{differ} rows in which the answers differ");
+    if differ == 0 { ExitCode::SUCCESS } else { ExitCode::FAILURE }
+}
+
+/// Prints a table; how many of its rows have answers that differ.
+fn table(title: &str, rows: &[Row], rounds: usize) -> usize {
+    println!("\n{title}\n");
+    line(&HEAD.map(String::from));
+    line(&std::array::from_fn(|i| if i == 0 { "---".into() } else { "---:".into() }));
+    let mut differ = 0;
+    for row in rows {
+        match time::times(row, rounds) {
+            Some(times) => line(&cells(row, times)),
+            None => {
+                differ += 1;
+                println!("| {} | the answers differ |", row.name);
+            }
+        }
+    }
+    differ
+}
+
+fn cells(row: &Row, [each, kept, hulmbax]: time::Times) -> [String; COLUMNS] {
+    let bytes = row.bytes() as f64 / row.values.len() as f64;
+    let whole = |x: f64| format!("{x:.0}");
+    let parts = |x: f64| format!("{x:.2}");
+    [
+        row.name.clone(),
+        row.schema.len().to_string(),
+        whole(bytes),
+        whole(each),
+        whole(kept),
+        whole(hulmbax),
+        parts(each / bytes),
+        parts(kept / bytes),
+        parts(hulmbax / bytes),
+        parts(each / hulmbax),
+        parts(kept / hulmbax),
+    ]
+}
+
+fn line(cells: &[String; COLUMNS]) {
+    print!("| {:41} |", cells[0]);
+    cells[1..].iter().for_each(|c| print!(" {c:>9} |"));
+    println!();
+}
