@@ -23,10 +23,10 @@ use Rattle.frame.specs.Checks.{verdict, valueVerdict, schemaVerdict}
 use Rattle.frame.specs.declared.Verdict.the-variants.{NoFrame, Unsound, Sound}
 use Rattle.buffer.specs.Built.{Built, Wrote}
 use Rattle.buffer.specs.declared.Answer.the-variants.{Accepted, Refused}
-use Rattle.types.specs.Contract.{encoded}
+use Rattle.types.specs.Contract.{encoded, onBoth}
 use Rattle.avro.specs.Resolve.{resolve}
 use Rattle.avro.specs.Defaults.{defaultsShort}
-use Rattle.resolution.specs.Contract.{Ready, onBoth, nodeBytes}
+use Rattle.resolution.specs.Contract.{Ready, nodeBytes}
 use Rattle.resolution.specs.Shortness.{SoundRead, testRead}
 use Rattle.avro.proofs.Refusals.{refusal-resolve}
 use Rattle.hulmbax.specs.Answer.{answer, bufferAfter, workspaceAfter, checkedSchema, checkedValue, written, workspaceSize}

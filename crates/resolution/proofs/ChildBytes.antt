@@ -22,11 +22,11 @@ use Rattle.frame.specs.ValueFrame.{entriesOf, readEntry, readValue, writeText, 
 use Rattle.frame.specs.SchemaFrame.{fieldsOf, readField, readSchema}
 use Rattle.frame.specs.Sound.{schemaSound, fieldsSound, hasField, defaultAllowed}
 use Rattle.types.specs.Types.{Outcome}
-use Rattle.types.specs.Contract.{encoded, onRead}
+use Rattle.types.specs.Contract.{encoded, onRead, onBoth}
 use Rattle.avro.specs.Resolve.{eachEntry, resolve-map, lookup, fieldValue, resolve-record, resolve, resolveFields, startDefault}
 use Rattle.avro.specs.Defaults.{defaultsShort, fieldDefaultsShort, shortDefault}
 use Rattle.find.specs.Find.{Keyed}
-use Rattle.resolution.specs.Contract.{Ready, ReadyField, onBoth, resolvePeeled, nodeBytes, peeledBytes, entryBytes, fieldBytes}
+use Rattle.resolution.specs.Contract.{Ready, ReadyField, resolvePeeled, nodeBytes, peeledBytes, entryBytes, fieldBytes}
 use Rattle.resolution.proofs.ReadParts.{mapRead, reads-some, reads-eq, reads-first, bind-some, map-inv, many-length, value-map, schema-map, schema-fields, schema-there, Split, many-split}
 use Rattle.resolution.proofs.Pieces.{both-some, onFirst, onSecond, front, eachBytes}
 use Rattle.resolution.proofs.NodeBytes.{ready-reads, value-kind, value-inv, head-bytes, no-ok}

@@ -24,13 +24,13 @@ use Rattle.frame.specs.Sound.{schemaSound, variantsSound, kindsSound, positions
 use Rattle.frame.proofs.RoundTrip.{held, value-back}
 use Rattle.frame.proofs.ReadHeld.{value-part-held, schema-part-held}
 use Rattle.types.specs.Types.{Outcome}
-use Rattle.types.specs.Contract.{encoded}
+use Rattle.types.specs.Contract.{encoded, onBoth}
 use Rattle.buffer.specs.Built.{Built, Wrote}
 use Rattle.buffer.specs.declared.Answer.{Answer}
 use Rattle.buffer.specs.declared.Answer.the-variants.{Accepted, Refused}
 use Rattle.avro.specs.Resolve.{first, resolve, startDefault, trials}
 use Rattle.avro.specs.Defaults.{defaultsShort, variantDefaultsShort, shortDefault, shortStart}
-use Rattle.resolution.specs.Contract.{Ready, ReadyDefault, onBoth, nodeBytes, peeledBytes, defaultBytes}
+use Rattle.resolution.specs.Contract.{Ready, ReadyDefault, nodeBytes, peeledBytes, defaultBytes}
 use Rattle.avro.proofs.Held.{held-resolve}
 use Rattle.resolution.proofs.ReadParts.{reads-some, bind-some, map-inv, list-behind, many-length, many-split, schema-variants, schema-kind, schema-there}
 use Rattle.resolution.proofs.Pieces.{both-some}

@@ -18,13 +18,13 @@ use Rattle.frame.specs.ValueFrame.{table, readValue, encodeValue, writeScalar}
 use Rattle.frame.specs.SchemaFrame.{variantsOf, readField, readSchema}
 use Rattle.frame.specs.Sound.{schemaSound, countVariants, defaultAllowed, defaultKinds, defaultScalar, keysRise}
 use Rattle.types.specs.Types.{Outcome}
-use Rattle.types.specs.Contract.{encoded}
+use Rattle.types.specs.Contract.{encoded, onBoth}
 use Rattle.buffer.specs.Built.{Built, Wrote}
 use Rattle.buffer.specs.declared.Answer.the-variants.{Accepted, Refused}
 use Rattle.avro.specs.Resolve.{resolve, startDefault, first}
 use Rattle.avro.specs.Defaults.{defaultsShort, variantDefaultsShort, shortDefault, shortStart}
 use Rattle.field.specs.Parts.{FieldParts, DefaultAt}
-use Rattle.resolution.specs.Contract.{Ready, onBoth, nodeBytes}
+use Rattle.resolution.specs.Contract.{Ready, nodeBytes}
 use Rattle.resolution.specs.Shortness.{SoundRead, testRead, fieldSound, fieldShort}
 use Rattle.field.specs.declared.FieldAt.{FieldAt}
 use Rattle.resolution.proofs.ReadParts.{reads-some, schema-there, schema-kind, many-zero}

@@ -25,7 +25,8 @@ use Rattle.avro.specs.Resolve.{lookup, fieldValue, startDefault}
 use Rattle.avro.specs.Defaults.{defaultsShort, shortDefault}
 use Rattle.find.specs.Find.{Keyed, Located, entryUnder}
 use Rattle.field.specs.Parts.{DefaultAt, FieldParts}
-use Rattle.resolution.specs.Contract.{Ready, ReadyField, ReadyDefault, onBoth, nodeBytes, entryBytes, defaultBytes, fieldBytes}
+use Rattle.types.specs.Contract.{onBoth}
+use Rattle.resolution.specs.Contract.{Ready, ReadyField, ReadyDefault, nodeBytes, entryBytes, defaultBytes, fieldBytes}
 use Rattle.find.specs.declared.Found.{Found}
 use Rattle.find.specs.declared.Found.the-variants.{At, Nothing}
 use Rattle.field.specs.declared.FieldAt.{FieldAt}

@@ -13,11 +13,11 @@ use Rattle.frame.specs.Readers.{readMany}
 use Rattle.frame.specs.Checks.{Spans}
 use Rattle.frame.specs.ValueFrame.{readValue}
 use Rattle.frame.specs.SchemaFrame.{readField, readSchema}
-use Rattle.types.specs.Contract.{onRead}
+use Rattle.types.specs.Contract.{onRead, onBoth}
 use Rattle.buffer.specs.Built.{Built, Wrote}
 use Rattle.buffer.specs.declared.Answer.the-variants.{Accepted}
 use Rattle.find.specs.Find.{Keyed}
-use Rattle.resolution.specs.Contract.{Ready, ReadyField, onBoth, peeledBytes, fieldBytes}
+use Rattle.resolution.specs.Contract.{Ready, ReadyField, peeledBytes, fieldBytes}
 use Rattle.resolution.proofs.ReadParts.{bind-some, Split, many-split}
 use Rattle.resolution.proofs.Pieces.{onSecond, Loop, going-start, loop-step, loop-tail}
 use Rattle.resolution.proofs.ChildBytes.{Field, FineFields, fine-first, fine-rest, fields-fine, fields-long, fields-others, fields-start}

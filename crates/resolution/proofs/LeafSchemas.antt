@@ -11,6 +11,7 @@ use lib.Dec.{leb}
 use lib.ListN.{length, getD, take, drop, length-drop}
 use lib.Seq.{drop-drop, getD-drop}
 use borrow.Author.Tests.{leb-true, leb-false}
+use Rattle.base.specs.Base.{Result}
 use Rattle.number.specs.Number.{bigEndian, numberAt}
 use Rattle.text.specs.Text.{Text}
 use Rattle.text.specs.Read.{Read, readNumber, readText}
@@ -20,12 +21,11 @@ use Rattle.frame.specs.Tree.{Value, Schema, UuidForm}
 use Rattle.frame.specs.Readers.{readList, readOption}
 use Rattle.frame.specs.SchemaFrame.{readSchemaContent, readSchema}
 use Rattle.types.specs.Types.{Outcome, resolvePlain, resolve-bytes, resolve-string, resolve-fixed, resolve-decimal, resolve-uuid, resolve-duration}
-use Rattle.types.specs.Contract.{encoded, onRead}
-use Rattle.types.specs.Contract as types
+use Rattle.types.specs.Contract.{encoded, onRead, onBoth}
 use Rattle.types.specs.Search.{resolveEnumAt}
 use Rattle.schema.proofs.Nodes.{node-open}
 use Rattle.schema.proofs.Leaves.{option-empty, option-zero, option-one-none, option-one-some, option-other, fixed-got, fixed-none, decimal-none, decimal-got, decimal-later, uuid-empty, uuid-bytes, uuid-string, uuid-short, uuid-fixed, uuid-other, duration-got, duration-none, plain-low, plain-high, kind-past}
-use Rattle.resolution.specs.Contract.{Childless, Ready, onBoth, resolvePeeled, peeledBytes}
+use Rattle.resolution.specs.Contract.{Childless, Ready, resolvePeeled, peeledBytes}
 use Rattle.resolution.proofs.ReadParts.{reads-some, not-reads, bind-inv, map-inv, schema-there}
 
 at-least : (n m : ℕ) → (m < n → ⊥) → n ≤ m
@@ -154,6 +154,11 @@ module _ (d : ℕ) (s : List ℕ) (p : Reads (readSchema d s)) where
 
 -- ---- outcomes
 
+both-some : {A B C : Type 0} (f : A → B → Result C) (x : A × List ℕ) (y : Read B) → onRead (f (x .0)) y ≡ onBoth f (some x) y
+unfolding onBoth onRead
+both-some f x none = refl
+both-some f x (some z) = refl
+
 -- against a schema whose resolution is f
 outcome : (f : Value → Outcome) (t : Schema) (r : List ℕ) (x : Read Schema) (y : Read Value) → x ≡ some (t, r) → ((w : Value) → resolvePeeled t w ≡ f w) → onBoth peeledBytes x y ≡ onRead (λ w. encoded (f w)) y
 unfolding onBoth onRead peeledBytes
@@ -206,12 +211,12 @@ module _ (ds : ℕ) (s : List ℕ) (p : Reads (readSchema ds s)) (y : Read Value
     unfolding resolvePeeled
     uuid-fixed-outcome f g n h = outcome _ _ _ _ y (uuid-fixed-tree ds s p e f g) (λ w. ap (λ m. resolve-uuid (UuidForm.fixed m) w) (sym h))
 
-  pub enum-outcome : getD s 0 0 ≡ 12 → onBoth peeledBytes (readSchema ds s) y ≡ types.onBoth (λ t w. encoded (resolveEnumAt t w)) (readSchema ds s) y
-  unfolding Reads onBoth types.onBoth onRead resolvePeeled resolveEnumAt
+  pub enum-outcome : getD s 0 0 ≡ 12 → onBoth peeledBytes (readSchema ds s) y ≡ onBoth (λ t w. encoded (resolveEnumAt t w)) (readSchema ds s) y
+  unfolding Reads onBoth onRead resolvePeeled resolveEnumAt
   enum-outcome e =
       let i = enum-tree ds s p e (p .0) (p .1 .0) (p .1 .1) in
       let q : readSchema ds s ≡ some (Schema.Enum (i .0) (i .1 .0), p .1 .0) = p .1 .1 ∙ ap (λ t. some (t, p .1 .0)) (i .1 .1) in
-      outcome _ _ _ _ y q (λ w. refl) ∙ rw q
+      outcome _ _ _ _ y q (λ w. refl) ∙ rw q (both-some _ _ y)
 
 -- ---- kinds
 

@@ -25,12 +25,12 @@ use Rattle.frame.specs.SchemaFrame.{fieldsOf, readField, readSchema}
 use Rattle.frame.specs.Sound.{schemaSound, fieldsSound, hasField, defaultAllowed}
 use Rattle.frame.proofs.ReadBack.{value-exact}
 use Rattle.types.specs.Types.{Outcome}
-use Rattle.types.specs.Contract.{encoded, onRead}
+use Rattle.types.specs.Contract.{encoded, onRead, onBoth}
 use Rattle.avro.specs.Union.{resolve-union, find-schema-with-known-schemata, inUnion}
 use Rattle.avro.specs.Resolve.{eachItem, eachEntry, resolve-array, resolve-map, lookup, fieldValue, resolve-record, resolve, resolveFields, startDefault, trials}
 use Rattle.avro.specs.Defaults.{defaultsShort, fieldDefaultsShort, shortDefault}
 use Rattle.find.specs.Find.{Keyed, peelRead}
-use Rattle.resolution.specs.Contract.{Ready, ReadyField, onBoth, resolvePeeled, nodeBytes, peeledBytes, entryBytes, fieldBytes}
+use Rattle.resolution.specs.Contract.{Ready, ReadyField, resolvePeeled, nodeBytes, peeledBytes, entryBytes, fieldBytes}
 use Rattle.resolution.proofs.ReadParts.{mapRead, reads-some, reads-eq, reads-first, bind-some, map-inv, many-length, value-array, value-map, schema-array, schema-map, schema-fields, schema-kind, Split, many-split}
 use Rattle.resolution.proofs.Pieces.{both-some, onFirst, onSecond, front, eachBytes}
 

@@ -11,12 +11,11 @@ use Rattle.text.specs.Read.{Read, _>>=_}
 use Rattle.text.specs.Measured.{Reads}
 use Rattle.frame.specs.Readers.{readMany}
 use Rattle.frame.specs.Checks.{Spans}
-use Rattle.types.specs.Contract.{onRead}
+use Rattle.types.specs.Contract.{onRead, onBoth}
 use Rattle.buffer.specs.Built.{Built, Wrote}
 use Rattle.buffer.proofs.BuiltLaws.{tail-is, tail-back, length-tail-back, built-small, built-append}
 use Rattle.buffer.specs.declared.Answer.{Answer}
 use Rattle.buffer.specs.declared.Answer.the-variants.{Accepted, Refused}
-use Rattle.resolution.specs.Contract.{onBoth}
 use Rattle.resolution.proofs.ReadParts.{mapRead, reads-some, reads-eq, reads-first, many-zero, Split, many-split, spans-le, spans-rest}
 
 -- ---- answers

@@ -58,12 +58,6 @@ pub record ReadyDefault (depth : ℕ) (s d : List ℕ) : Type 0 where
 
 -- ---- outcomes
 
--- f of what two parts hold
-unfoldable pub onBoth : {A B C : Type 0} → (A → B → Result C) → Read A → Read B → Result C
-onBoth f none y = no 0
-onBoth f (some x) none = no 0
-onBoth f (some x) (some y) = f (x .0) (y .0)
-
 -- resolve_internal behind the peeling of one Union
 unfoldable pub resolvePeeled : Schema → Value → Outcome
 resolvePeeled (Schema.Plain k) w = resolvePlain k w

@@ -12,7 +12,8 @@ ghost use Rattle.frame.specs.SchemaFrame.{readSchema, readField};
 ghost use Rattle.frame.specs.Sound.{defaultKinds, schemaSound};
 ghost use Rattle.avro.specs.Resolve.{startDefault};
 ghost use Rattle.avro.specs.Defaults.{defaultsShort, shortStart};
-ghost use Rattle.resolution.specs.Contract.{Ready, onBoth};
+ghost use Rattle.types.specs.Contract.{onBoth};
+ghost use Rattle.resolution.specs.Contract.{Ready};
 ghost use Rattle.resolution.specs.Shortness.{SoundRead, fieldShort, fieldSound, testRead};
 
 // Whether every default of the schema is short. `out` is scratch: what it holds afterwards is not said.

@@ -10,7 +10,8 @@ ghost use Rattle.frame.specs.Kind;
 ghost use Rattle.frame.specs.ValueFrame.{readValue};
 ghost use Rattle.frame.specs.SchemaFrame.{readSchema};
 ghost use Rattle.buffer.specs.Built.{Wrote};
-ghost use Rattle.resolution.specs.Contract.{Childless, Ready, onBoth, peeledBytes};
+ghost use Rattle.types.specs.Contract.{onBoth};
+ghost use Rattle.resolution.specs.Contract.{Childless, Ready, peeledBytes};
 
 fn leaf_fixed(s: &[u8], v: &[u8], out: &mut [u8], ds: usize, dv: usize) -> Answer
     requires { ⌜ Reads (readSchema ds (now s)) × Reads (readValue dv (now v)) × (getD (now s) 0 0 ≡ Kind.Fixed) ⌝ }

@@ -24,7 +24,8 @@ onRead f (some x) = f (x .0)
 -- what f gives for two things that were read
 unfoldable pub onBoth : {A B C : Type 0} → (A → B → Result C) → Read A → Read B → Result C
 onBoth f none y = no 0
-onBoth f (some x) y = onRead (f (x .0)) y
+onBoth f (some x) none = no 0
+onBoth f (some x) (some y) = f (x .0) (y .0)
 
 -- the code points of a text, none where it is no UTF-8
 unfoldable pub orNone : Option (List ℕ) → List ℕ

@@ -11,7 +11,8 @@ use Rattle.number.proofs.Laws.{getD-allBytes}
 use Rattle.frame.specs.ValueFrame.{readValue, readEntry}
 use Rattle.frame.specs.SchemaFrame.{readSchema, readField}
 use Rattle.buffer.proofs.BuiltLaws.{tail-is, built-small}
-use Rattle.resolution.specs.Contract.{onBoth, nodeBytes, peeledBytes, entryBytes, fieldBytes, defaultBytes}
+use Rattle.types.specs.Contract.{onBoth}
+use Rattle.resolution.specs.Contract.{nodeBytes, peeledBytes, entryBytes, fieldBytes, defaultBytes}
 use Rattle.resolution.proofs.ReadParts.{reads-some, value-there, schema-there, value-array, value-map, spans-le}
 use Rattle.resolution.proofs.Pieces.{wrote-eq, wrote-no, accepted-small, both-first, both-second, onFirst, onSecond, Loop, going-start, loop-first, loop-small, loop-end, loop-no, loop-add, loop-step, wrote-last, wrote-last-no}
 use Rattle.resolution.proofs.NodeBytes.{both-peel, peel-reads, ready-reads, ready-array, ready-map, array-no, array-others, array-start}
