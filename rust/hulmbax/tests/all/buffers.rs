@@ -116,7 +116,7 @@ fn threads_call_at_the_same_time() {
 
 // Records nested as deep as a frame can be take the most stack.
 #[test]
-fn a_thread_with_128_kilobytes_of_stack_is_enough() {
+fn a_thread_with_192_kilobytes_of_stack_is_enough() {
     let record_of = |s| Schema::record(vec![RecordField::new("f", s)]);
     let schema = (1..MAX_DEPTH).fold(Schema::Int, |s, _| record_of(s));
     let value_of = |v| Value::Record(vec![("f".to_string(), v)]);
@@ -124,7 +124,7 @@ fn a_thread_with_128_kilobytes_of_stack_is_enough() {
     let (schema, record) = (schema.to_frame().unwrap(), value.to_frame().unwrap());
     let sent = record.clone();
     let call = std::thread::Builder::new()
-        .stack_size(128 * 1024)
+        .stack_size(192 * 1024)
         .spawn(move || resolved(&schema, &sent));
     assert_eq!(call.unwrap().join().unwrap(), Ok(record));
 }
