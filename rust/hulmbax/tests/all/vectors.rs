@@ -12,17 +12,18 @@ struct Vector {
     answer: String,
 }
 
-// The file has a line `s SCHEMA`, then for each record a line `v RECORD` and one with the answer.
+// The file has a line `s SCHEMA`, then for each record a line `v RECORD` and one with the answer; a frame may be empty, and `#`
+// begins a comment.
 fn vectors() -> Vec<Vector> {
     let file = std::fs::read_to_string(RECORDED)
         .unwrap_or_else(|e| panic!("the recorded answers can't be read, {RECORDED}: {e}"));
     let mut vectors = Vec::new();
     let (mut schema, mut record) = (Vec::new(), Vec::new());
-    for line in file.lines() {
-        match line.split_once(' ') {
-            Some(("s", frame)) => schema = bytes(frame),
-            Some(("v", frame)) => record = bytes(frame),
-            Some(("+" | "-", _)) => vectors.push(Vector {
+    for line in file.lines().filter(|line| !line.starts_with('#')) {
+        match line.split_once(' ').unwrap_or((line, "")) {
+            ("s", frame) => schema = bytes(frame),
+            ("v", frame) => record = bytes(frame),
+            ("+" | "-", _) => vectors.push(Vector {
                 schema: schema.clone(),
                 record: record.clone(),
                 answer: line.to_string(),
