@@ -4,3 +4,4 @@ pub mod ReadBack
 pub mod Inside
 pub mod Peel
 pub mod Depth
+pub mod Lengths
