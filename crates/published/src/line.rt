@@ -36,7 +36,7 @@ fn leaf(name: &[u8], given: &[u8]) {
     io::write_all(1, b"no such line");
 }
 
-pub fn answer(s: &[u8]) {
+pub(crate) fn answer(s: &[u8]) {
     io::write_all(1, s);
     if is_note(s) {
         io::write_all(1, b"\n");

@@ -183,7 +183,7 @@ fn duration_of(given: &[u8]) -> bool {
 }
 
 // Whether the name is one of these, and the number as wide as it asks.
-pub fn answer(name: &[u8], given: &[u8]) -> bool {
+pub(crate) fn answer(name: &[u8], given: &[u8]) -> bool {
     if text::same(name, b"precision") {
         return precision_of(given);
     }

@@ -96,7 +96,7 @@ fn in_hex(name: &[u8], given: &[u8]) -> bool {
 }
 
 // Whether the name is one of these.
-pub fn answer(name: &[u8], given: &[u8]) -> bool {
+pub(crate) fn answer(name: &[u8], given: &[u8]) -> bool {
     if text::same(name, b"uuid") {
         uuid_of(given);
         return true;
