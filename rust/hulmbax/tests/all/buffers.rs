@@ -7,15 +7,15 @@ const LONG: &str = "03";
 const INT: &str = "0200000e11";
 const RESULT: &str = "030000000000000e11";
 
+// The Int under the schema of a Long, which gives RESULT.
+fn int_to_long(result: &mut [u8]) -> Result<usize, Refusal> {
+    resolve(&bytes(LONG), &bytes(INT), result, &mut Workspace::new())
+}
+
 #[test]
 fn a_buffer_of_the_result_s_length_is_long_enough() {
     let mut result = [0xaa; 9];
-    let n = resolve(
-        &bytes(LONG),
-        &bytes(INT),
-        &mut result,
-        &mut Workspace::new(),
-    );
+    let n = int_to_long(&mut result);
     assert_eq!(n, Ok(9));
     assert_eq!(result.to_vec(), bytes(RESULT));
 }
@@ -23,12 +23,7 @@ fn a_buffer_of_the_result_s_length_is_long_enough() {
 #[test]
 fn a_longer_buffer_keeps_what_stands_after_the_result() {
     let mut result = [0xaa; 12];
-    let n = resolve(
-        &bytes(LONG),
-        &bytes(INT),
-        &mut result,
-        &mut Workspace::new(),
-    );
+    let n = int_to_long(&mut result);
     assert_eq!(n, Ok(9));
     assert_eq!(result[..9].to_vec(), bytes(RESULT));
     assert_eq!(result[9..], [0xaa; 3]);
@@ -38,12 +33,7 @@ fn a_longer_buffer_keeps_what_stands_after_the_result() {
 fn a_shorter_buffer_is_refused_and_left_as_it_was() {
     for length in 0..9 {
         let mut result = vec![0xaa; length];
-        let n = resolve(
-            &bytes(LONG),
-            &bytes(INT),
-            &mut result,
-            &mut Workspace::new(),
-        );
+        let n = int_to_long(&mut result);
         assert_eq!(n, Err(Refusal::ResultTooLong), "{length}");
         assert_eq!(result, vec![0xaa; length]);
     }
