@@ -1,6 +1,6 @@
 -- What is read at a depth is read at every greater depth, and is the same.
 use Prim.Native.Nat.{ℕ, zero, suc, _+_}
-use mathlib.Core.Path.{_≡_, refl, ap, _∙_}
+use mathlib.Core.Path.{_≡_, refl}
 use mathlib.Core.List.{List, [], _∷_}
 use mathlib.Core.Option.{Option, none, some}
 use mathlib.Core.Bool.{Bool, true, false, _&&_, _||_}
@@ -8,13 +8,12 @@ use native.Mathlib.Nat.{zero-add, suc-add}
 use native.Mathlib.Omega.{arith}
 use lib.Dec.{leb, eqb}
 use Rattle.base.specs.Base.{if_then_else_}
-use Rattle.text.specs.Text.{Text}
-use Rattle.text.specs.Read.{Read, _>>=_, readBytes, readNumber, readCounted, readText}
+use Rattle.text.specs.Read.{Read, _>>=_, readNumber, readText}
 use Rattle.frame.specs.Kind
 use Rattle.frame.specs.Tree.{Value, Schema}
-use Rattle.frame.specs.Readers.{readFlag, readMany, readList, readOption}
+use Rattle.frame.specs.Readers.{readMany, readList, readOption}
 use Rattle.frame.specs.ValueFrame.{Content, wide, flag, counted, text, plain, array, map, union, entries, symbol, unknown, content, readEntry, readContent, readValue}
-use Rattle.frame.specs.SchemaFrame.{readField, readLead, readUuidForm, readSchemaContent, readSchema}
+use Rattle.frame.specs.SchemaFrame.{readField, readSchemaContent, readSchema}
 
 -- y gives what x gives, if x gives anything
 abbrev Under : {A : Type 0} → Option A → Option A → Type 0

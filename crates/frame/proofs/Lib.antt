@@ -5,3 +5,9 @@ pub mod Inside
 pub mod Peel
 pub mod Depth
 pub mod Lengths
+pub mod Reading
+pub mod Measuring
+pub mod Counting
+pub mod Whole
+pub mod ValueNodes
+pub mod SchemaNodes

@@ -1,16 +1,13 @@
 -- What is read, written again, is the bytes that it was read from: a part of a frame and the tree in it are the same thing.
-use Prim.Native.Nat.{ℕ, zero, suc, _+_, _*_, _/_, _%_, _^_, _<_, _≤_}
+use Prim.Native.Nat.{ℕ, zero, suc, _≤_}
 use mathlib.Core.Path.{_≡_, refl, sym, ap, _∙_, subst}
 use mathlib.Core.List.{List, [], _∷_, _++_, append-assoc, append-nil}
 use mathlib.Core.Option.{Option, none, some}
-use mathlib.Core.Bool.{Bool, true, false, _&&_, _||_, not}
-use native.Mathlib.Nat.{pow-succ', pow-suc, div-div-eq-div-mul, div-one, mul-assoc, add-assoc}
-use native.Mathlib.Omega.{arith}
-use lib.Arith.{digits-div, digits-mod}
-use lib.Dec.{T, leb, ltb, eqb, ltb→lt, leb→le, eqb→eq, nleb→lt, eqb·suc-zero}
-use lib.ListN.{length, take, drop, take-append-drop, List·getD-eq-default}
+use mathlib.Core.Bool.{Bool, true, false, not}
+use lib.Dec.{T, leb, ltb, eqb, leb→le, eqb→eq, nleb→lt, eqb·suc-zero}
+use lib.ListN.{length, take-append-drop, List·getD-eq-default}
 use lib.Seq.{length-take-le}
-use lib.Ieee.Fits.{and-l, and-r, and-i}
+use lib.Ieee.Fits.{and-r}
 use Rattle.base.specs.Base.{if_then_else_}
 use Rattle.number.specs.Number.{allBytes, bigEndian, bytesOf}
 use Rattle.number.proofs.Laws.{allBytes-take, allBytes-drop, bytesOf-bigEndian}
@@ -18,7 +15,7 @@ use Rattle.utf8.specs.Utf8.{isUtf8}
 use Rattle.text.specs.Text.{Text}
 use Rattle.text.specs.Read.{Read, _>>=_, readBytes, readNumber, readCounted, readText}
 use Rattle.frame.specs.Kind
-use Rattle.frame.specs.Tree.{Value, Values, Entries, noItems, item, noEntries, entry}
+use Rattle.frame.specs.Tree.{Value}
 use Rattle.frame.specs.Readers.{readFlag, readMany, readList, whole}
 use Rattle.frame.specs.ValueFrame.{Content, wide, flag, counted, text, plain, array, map, union, entries, symbol, unknown, table, content, itemsOf, entriesOf, readEntry, readContent, readValue, decodeValue, writeText, writeScalar, writeOctets, countItems, countEntries, encodeValue, encodeItems, encodeEntries}
 use Rattle.base.proofs.AllBelow.{allBelow, allBelow-lookup}
@@ -109,7 +106,7 @@ list-exact w p g s h =
 
 -- ---- values
 
-count-items : (xs : List Value) → countItems (itemsOf xs) ≡ length xs
+pub count-items : (xs : List Value) → countItems (itemsOf xs) ≡ length xs
 unfolding countItems itemsOf
 count-items [] = refl
 count-items (v ∷ vs) = ap suc (count-items vs)
@@ -122,7 +119,7 @@ items-written (v ∷ vs) = ap (λ (r : List ℕ). encodeValue v ++ r) (items-wri
 writeEntry : Text × Value → List ℕ
 writeEntry e = writeText (e .0) ++ encodeValue (e .1)
 
-count-entries : (xs : List (Text × Value)) → countEntries (entriesOf xs) ≡ length xs
+pub count-entries : (xs : List (Text × Value)) → countEntries (entriesOf xs) ≡ length xs
 unfolding countEntries entriesOf
 count-entries [] = refl
 count-entries (e ∷ es) = ap suc (count-entries es)

@@ -1,29 +1,28 @@
 -- What is read from bytes is a tree that a frame can hold.
-use Prim.Native.Nat.{ℕ, zero, suc, _+_, _*_, _^_, _<_, _≤_}
-use mathlib.Core.Path.{_≡_, refl, sym, ap, _∙_, subst}
-use mathlib.Core.List.{List, [], _∷_, _++_}
+use Prim.Native.Nat.{ℕ, zero, suc, _^_, _<_}
+use mathlib.Core.Path.{_≡_, refl, ap, subst}
+use mathlib.Core.List.{List, [], _∷_}
 use mathlib.Core.Option.{Option, none, some}
 use mathlib.Core.Bool.{Bool, true, false, _&&_, _||_, not}
-use native.Mathlib.Nat.{pow-succ', mul-le-mul-right, lt-of-lt-of-le, mul-assoc}
-use native.Mathlib.Omega.{arith}
-use lib.Dec.{T, leb, ltb, eqb, ltb→lt, lt→ltb, leb→le, le→leb, eqb→eq, eqb-refl}
-use lib.ListN.{length, take, drop, getD}
+use lib.Dec.{T, leb, ltb, eqb, lt→ltb, leb→le}
+use lib.ListN.{length}
 use lib.Seq.{length-take-le}
-use lib.Ieee.Bits.{is-true, is-false}
-use lib.Ieee.Fits.{and-l, and-r, and-i, eq→eqb}
+use lib.Ieee.Fits.{and-r, and-i, eq→eqb}
 use Rattle.base.specs.Base.{if_then_else_}
-use Rattle.number.specs.Number.{allBytes, bigEndian, bytesOf}
+use Rattle.number.specs.Number.{allBytes}
 use Rattle.number.proofs.Laws.{allBytes-take, allBytes-drop, bigEndian-<}
 use Rattle.utf8.specs.Utf8.{isUtf8}
 use Rattle.text.specs.Text.{Text}
 use Rattle.text.specs.Read.{Read, _>>=_, readBytes, readNumber, readCounted, readText}
 use Rattle.frame.specs.Kind
-use Rattle.frame.specs.Tree.{Value, Values, Entries, Schema, Fields, Variants, UuidForm, noItems, item, noEntries, entry, noFields, field, noVariants, variant}
+use Rattle.frame.specs.Tree.{Value, Schema, Fields, Variants, noFields, field, noVariants, variant}
 use Rattle.frame.specs.Readers.{readFlag, readMany, readList, readOption, whole}
 use Rattle.frame.specs.ValueFrame.{Content, wide, flag, counted, text, plain, array, map, union, entries, symbol, unknown, content, itemsOf, entriesOf, readEntry, readContent, readValue, decodeValue, countItems, countEntries}
 use Rattle.frame.specs.SchemaFrame.{fieldsOf, variantsOf, readField, readLead, readUuidForm, readSchemaContent, readSchema, decodeSchema}
 use Rattle.frame.specs.ValueFrame
 use Rattle.frame.specs.Sound.{countVariants}
+use Rattle.frame.proofs.ReadBack.{count-items, count-entries}
+use Rattle.frame.proofs.SchemaNodes.{count-variants}
 use Rattle.frame.proofs.RoundTrip.{held, itemsHeld, entriesHeld, scalarHeld, octetsHeld, textHeld}
 
 -- ---- a fact of what is read, and bytes behind it
@@ -96,11 +95,6 @@ list-got P p g s h =
 
 -- ---- values
 
-count-items : (xs : List Value) → countItems (itemsOf xs) ≡ length xs
-unfolding countItems itemsOf
-count-items [] = refl
-count-items (v ∷ vs) = ap suc (count-items vs)
-
 items-of : (d : ℕ) (xs : List Value) → Each (λ v. T (held v d)) xs → T (itemsHeld (itemsOf xs) d)
 unfolding held itemsOf
 items-of d [] h = tt
@@ -108,11 +102,6 @@ items-of d (v ∷ vs) h = and-i (held v d) (itemsHeld (itemsOf vs) d) (h .0) (it
 
 abbrev EntryHeld : ℕ → Text × Value → Type 0
 EntryHeld d e = T (textHeld (e .0)) × T (held (e .1) d)
-
-count-entries : (xs : List (Text × Value)) → countEntries (entriesOf xs) ≡ length xs
-unfolding countEntries entriesOf
-count-entries [] = refl
-count-entries (e ∷ es) = ap suc (count-entries es)
 
 entries-of : (d : ℕ) (xs : List (Text × Value)) → Each (EntryHeld d) xs → T (entriesHeld (entriesOf xs) d)
 unfolding held entriesOf
@@ -246,11 +235,6 @@ variants-of : (e : ℕ) (xs : List Schema) → Each (λ s. HeldSchema s e) xs �
 unfolding variantsOf
 variants-of e [] h = tt
 variants-of e (s ∷ ss) h = (h .0, variants-of e ss (h .1))
-
-count-variants : (xs : List Schema) → countVariants (variantsOf xs) ≡ length xs
-unfolding variantsOf countVariants
-count-variants [] = refl
-count-variants (s ∷ ss) = ap suc (count-variants ss)
 
 any-number : (n : ℕ) (s : List ℕ) → T (allBytes s) → Got (λ m. Unit) (readNumber n s)
 any-number n s h = weaken (readNumber n s) (number-got n s h)
