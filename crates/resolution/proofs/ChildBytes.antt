@@ -1,35 +1,38 @@
 -- The bytes of a resolved Map and Record: a header and then those of each entry or field.
-use Prim.Native.Nat.{ℕ, zero, suc, _+_, _-_, _≤_, _<_}
+use Prim.Native.Nat.{ℕ, suc, _-_, _≤_}
 use mathlib.Core.Path.{_≡_, refl, sym, ap, _∙_, subst}
 use mathlib.Core.Logic.{_⊎_, ⊎-elim, inl, inr}
-use mathlib.Core.List.{List, [], _∷_, _++_, append-assoc}
-use mathlib.Core.Option.{Option, none, some}
-use mathlib.Core.Bool.{Bool, true, false, _&&_, _||_, not}
+use mathlib.Core.List.{List, [], _∷_, _++_}
+use mathlib.Core.Option.{some}
+use mathlib.Core.Bool.{_&&_, not}
 use native.Mathlib.Omega.{arith}
-use lib.Dec.{T, eqb}
-use lib.ListN.{length, getD, take, drop, length-drop}
+use lib.Dec.{T}
+use lib.ListN.{length, getD, take, drop}
 use lib.Ieee.Fits.{and-l, and-r}
 use borrow.Author.Tests.{eq-eqb, ne-eqb}
-use Rattle.base.specs.Base.{if_then_else_, Result, ok, no, after}
+use Rattle.base.specs.Base.{Result, ok, no, after}
 use Rattle.number.specs.Number.{allBytes, numberAt, bytesOf}
 use Rattle.text.specs.Text.{Text}
-use Rattle.text.specs.Read.{Read, _>>=_}
 use Rattle.text.specs.Measured.{Reads}
+use Rattle.schema.specs.Parts.{Field}
 use Rattle.frame.specs.Kind
-use Rattle.frame.specs.Tree.{Value, Values, Entries, Schema, Fields, noEntries, entry, noFields, field, kindOf, is, entries}
-use Rattle.frame.specs.Readers.{readMany, readList}
+use Rattle.frame.specs.Tree.{Value, Entries, Schema, Fields, noEntries, entry, kindOf, entries}
+use Rattle.frame.specs.Readers.{readMany}
 use Rattle.frame.specs.ValueFrame.{entriesOf, readEntry, readValue, writeText, countEntries, encodeValue, encodeEntries}
 use Rattle.frame.specs.SchemaFrame.{fieldsOf, readField, readSchema}
 use Rattle.frame.specs.Sound.{schemaSound, fieldsSound, hasField, defaultAllowed}
+use Rattle.frame.proofs.Reading.{read-what, bind-some, map-inv, reads-some, reads-eq, reads-first}
+use Rattle.frame.proofs.Counting.{many-length}
+use Rattle.frame.proofs.ValueNodes.{value-kind}
 use Rattle.types.specs.Types.{Outcome}
 use Rattle.types.specs.Contract.{encoded, onRead, onBoth}
 use Rattle.avro.specs.Resolve.{eachEntry, resolve-map, lookup, fieldValue, resolve-record, resolve, resolveFields, startDefault}
 use Rattle.avro.specs.Defaults.{defaultsShort, fieldDefaultsShort, shortDefault}
 use Rattle.find.specs.Find.{Keyed}
-use Rattle.resolution.specs.Contract.{Ready, ReadyField, resolvePeeled, nodeBytes, peeledBytes, entryBytes, fieldBytes}
-use Rattle.resolution.proofs.ReadParts.{mapRead, reads-some, reads-eq, reads-first, bind-some, map-inv, many-length, value-map, schema-map, schema-fields, schema-there, Split, many-split}
+use Rattle.resolution.specs.Contract.{Ready, resolvePeeled, nodeBytes, peeledBytes, entryBytes, fieldBytes}
+use Rattle.resolution.proofs.ReadParts.{value-map, schema-fields, ready-reads}
 use Rattle.resolution.proofs.Pieces.{both-some, onFirst, onSecond, front, eachBytes}
-use Rattle.resolution.proofs.NodeBytes.{ready-reads, value-kind, value-inv, head-bytes, no-ok}
+use Rattle.resolution.proofs.NodeBytes.{value-inv, head-bytes, no-ok}
 
 -- ---- maps
 
@@ -76,7 +79,7 @@ module _ (ds dv : ℕ) (s v : List ℕ) (r : Ready ds s) (pv : Reads (readValue 
       let i = value-inv ds s r es in
       both-some peeledBytes _ _ (r .tree) (pv .0) (r .rest) (pv .1 .0) (r .reads) (pv .1 .1)
       ∙ ap (λ t. peeledBytes t (pv .0)) (i .1 .1)
-      ∙ map-other (i .0) (pv .0) (λ q. f (value-kind dv v (pv .0) (pv .1 .0) b (pv .1 .1) ∙ q))
+      ∙ map-other (i .0) (pv .0) (λ q. f (sym (value-kind dv v b (pv .0) (pv .1 .0) (pv .1 .1)) ∙ q))
 
   module _ (ev : getD v 0 0 ≡ 9) (n : ℕ) (hn : n ≡ numberAt v 1 2) where
     pub map-others : Reads (readMany (readEntry (readValue (dv - 1))) n (drop 3 v))
@@ -98,9 +101,6 @@ module _ (ds dv : ℕ) (s v : List ℕ) (r : Ready ds s) (pv : Reads (readValue 
         ∙ rw (i .1 .0, o .1 .1)
 
 -- ---- records
-
-abbrev pub Field : Type 0
-Field = Text × Option Value × Schema
 
 -- what becomes of a field, before its bytes
 abbrev fieldOutcome : Field → Entries → Outcome
@@ -179,7 +179,7 @@ module _ (ds : ℕ) (s : List ℕ) (r : Ready ds s) (es : getD s 0 0 ≡ 11) whe
   unfolding Reads
   record-no dv v pv b g f =
       let i = fields-inv in
-      let k = value-kind dv v (pv .0) (pv .1 .0) b (pv .1 .1) in
+      let k = sym (value-kind dv v b (pv .0) (pv .1 .0) (pv .1 .1)) in
       both-some peeledBytes _ _ (r .tree) (pv .0) (r .rest) (pv .1 .0) (r .reads) (pv .1 .1)
       ∙ ap (λ t. peeledBytes t (pv .0)) (i .1 .1)
       ∙ record-other (fieldsOf (i .0)) (pv .0) (λ q. f (k ∙ q)) (λ q. g (k ∙ q))
@@ -196,7 +196,7 @@ module _ (ds : ℕ) (s : List ℕ) (r : Ready ds s) (es : getD s 0 0 ≡ 11) whe
         let m : readMany (readField (readSchema (ds - 1))) n (drop 3 s) ≡ some (x, r .rest) = ap (λ j. readMany (readField (readSchema (ds - 1))) j (drop 3 s)) hn ∙ i .1 .0 in
         let l : length x ≡ n = many-length (readField (readSchema (ds - 1))) n (drop 3 s) x (r .rest) m in
         let h : take 3 s ≡ 11 ∷ bytesOf 2 (length x) = head-bytes s 11 b fields-long es ∙ ap (λ (j : ℕ). 11 ∷ bytesOf 2 j) (sym (l ∙ hn)) in
-        let k = value-kind dv v (pv .0) (pv .1 .0) c (pv .1 .1) in
+        let k = sym (value-kind dv v c (pv .0) (pv .1 .0) (pv .1 .1)) in
         let kk : (kindOf (pv .0) ≡ 9) ⊎ (kindOf (pv .0) ≡ 11) = ⊎-elim (λ q. inl (sym k ∙ q)) (λ q. inr (sym k ∙ q)) ev in
         both-some peeledBytes _ _ (r .tree) (pv .0) (r .rest) (pv .1 .0) (r .reads) (pv .1 .1)
         ∙ ap (λ t. peeledBytes t (pv .0)) (i .1 .1)
@@ -230,6 +230,4 @@ pub fields-fine : (ds : ℕ) (s : List ℕ) (r : Ready ds s) (es : getD s 0 0 �
 fields-fine ds s r es n hn xs u e =
     let i = fields-inv ds s r es in
     let m : readMany (readField (readSchema (ds - 1))) n (drop 3 s) ≡ some (i .0, r .rest) = ap (λ j. readMany (readField (readSchema (ds - 1))) j (drop 3 s)) hn ∙ i .1 .0 in
-    let f : _≡_ {A = Read (List Field)} (some (i .0, r .rest)) (some (xs, u)) = sym m ∙ e in
-    let g : _≡_ {A = List Field × List ℕ} (i .0, r .rest) (xs, u) = cc in
-    subst FineFields (ap (λ (y : List Field × List ℕ). y .0) g) (fine-all (r .tree) (i .0) (i .1 .1) (r .sound) (r .short))
+    subst FineFields (read-what (sym m ∙ e)) (fine-all (r .tree) (i .0) (i .1 .1) (r .sound) (r .short))

@@ -1,40 +1,42 @@
 -- The bytes of a default in its field: in a union's field it goes to the first variant, and what comes of it is resolved anew.
-use Prim.Native.Nat.{ℕ, zero, suc, _+_, _-_, _≤_, _<_}
+use Prim.Native.Nat.{ℕ, suc, _-_, _≤_, _<_}
 use mathlib.Core.Path.{_≡_, refl, sym, ap, _∙_, subst}
 use mathlib.Core.List.{List, [], _∷_, _++_}
-use mathlib.Core.Option.{Option, none, some}
-use mathlib.Core.Bool.{Bool, true, false, _&&_, _||_, not}
+use mathlib.Core.Option.{some}
 use native.Mathlib.Omega.{arith}
-use lib.Dec.{T, leb, ltb, eqb, ltb→lt, leb→le}
+use lib.Dec.{T, leb, eqb, leb→le}
 use lib.ListN.{length, getD, take, drop, length-drop, take-append-drop}
 use lib.Seq.{getD-drop}
-use lib.Ieee.Fits.{and-l, and-r}
+use lib.Ieee.Fits.{and-l}
 use borrow.Author.Tests.{eq-eqb, ne-eqb}
-use Rattle.base.specs.Base.{if_then_else_, Result, ok, no, after}
+use Rattle.base.specs.Base.{if_then_else_, ok, no, after}
 use Rattle.number.specs.Number.{allBytes, bigEndian, numberAt}
 use Rattle.number.proofs.Laws.{allBytes-drop}
-use Rattle.text.specs.Read.{Read, _>>=_, readBytes, readNumber}
+use Rattle.text.specs.Read.{_>>=_, readBytes, readNumber}
 use Rattle.text.specs.Measured.{Reads}
 use Rattle.frame.specs.Kind
-use Rattle.frame.specs.Tree.{Value, Schema, Variants, noVariants, variant, kindOf, is, peel, schemaKind}
+use Rattle.frame.specs.Tree.{Value, Schema, Variants, variant, kindOf, is, peel, schemaKind}
 use Rattle.frame.specs.Readers.{readMany}
 use Rattle.frame.specs.ValueFrame.{table, readContent, readValue, encodeValue}
 use Rattle.frame.specs.SchemaFrame.{variantsOf, readSchema}
-use Rattle.frame.specs.Sound.{schemaSound, variantsSound, kindsSound, positionsSound, countVariants}
+use Rattle.frame.specs.Sound.{schemaSound, countVariants}
 use Rattle.frame.proofs.RoundTrip.{held, value-back}
 use Rattle.frame.proofs.ReadHeld.{value-part-held, schema-part-held}
+use Rattle.frame.proofs.Reading.{reads-some}
+use Rattle.frame.proofs.Counting.{many-first, many-length}
+use Rattle.frame.proofs.SchemaNodes.{schema-there, schema-kind}
 use Rattle.types.specs.Types.{Outcome}
 use Rattle.types.specs.Contract.{encoded, onBoth}
 use Rattle.buffer.specs.Built.{Built, Wrote}
-use Rattle.buffer.specs.declared.Answer.{Answer}
 use Rattle.buffer.specs.declared.Answer.the-variants.{Accepted, Refused}
-use Rattle.avro.specs.Resolve.{first, resolve, startDefault, trials}
+use Rattle.avro.specs.Resolve.{first, resolve, startDefault}
 use Rattle.avro.specs.Defaults.{defaultsShort, variantDefaultsShort, shortDefault, shortStart}
 use Rattle.resolution.specs.Contract.{Ready, ReadyDefault, nodeBytes, peeledBytes, defaultBytes}
 use Rattle.avro.proofs.Held.{held-resolve}
-use Rattle.resolution.proofs.ReadParts.{reads-some, bind-some, map-inv, list-behind, many-length, many-split, schema-variants, schema-kind, schema-there}
 use Rattle.resolution.proofs.Pieces.{both-some}
-use Rattle.resolution.proofs.NodeBytes.{node-peel, ready-reads}
+use Rattle.resolution.proofs.NodeBytes.{node-peel}
+use Rattle.resolution.proofs.UnionReading.{union-parts}
+use Rattle.resolution.proofs.SoundParts.{union-sound, variant-sound}
 
 -- ---- fields that are no union
 
@@ -76,56 +78,37 @@ pub record FirstVariant (ds : ℕ) (s : List ℕ) (t : Schema) : Type 0 where
   pub sound : T (schemaSound lead)
   pub short : T (defaultsShort lead)
 
--- what a sound union says of its variants
-variants-sound : (vs : Variants) (ks : List (ℕ × ℕ)) (ns : List ℕ) → T (schemaSound (Schema.Union vs ks ns)) → (0 < countVariants vs) × T (variantsSound vs)
-unfolding schemaSound
-variants-sound vs ks ns h =
-    let n = countVariants vs in
-    let a = and-l (ltb 0 n && variantsSound vs && kindsSound n 0 ks) (positionsSound n ns) h in
-    let b = and-l (ltb 0 n && variantsSound vs) (kindsSound n 0 ks) a in
-    (ltb→lt 0 n (and-l (ltb 0 n) (variantsSound vs) b), and-r (ltb 0 n) (variantsSound vs) b)
-
 no-variants : (0 < countVariants (variantsOf [])) → ⊥
 unfolding countVariants variantsOf
 no-variants h = omega arith
-
-lead-sound : (x : Schema) (xs : Variants) → T (variantsSound (variant x xs)) → T (schemaSound x)
-unfolding schemaSound
-lead-sound x xs h = and-r (not (eqb (schemaKind x) Kind.Union)) (schemaSound x) (and-l (not (eqb (schemaKind x) Kind.Union) && schemaSound x) (variantsSound xs) h)
 
 lead-short : (x : Schema) (xs : Variants) (ks : List (ℕ × ℕ)) (ns : List ℕ) → T (defaultsShort (Schema.Union (variant x xs) ks ns)) → T (defaultsShort x)
 unfolding defaultsShort
 lead-short x xs ks ns h = and-l (defaultsShort x) (variantDefaultsShort xs) h
 
-variants-first : (x : Schema) (xs : List Schema) → variantsOf (x ∷ xs) ≡ variant x (variantsOf xs)
-unfolding variantsOf
-variants-first x xs = refl
-
 pub first-variant : (ds : ℕ) (s : List ℕ) (r : Ready ds s) → getD s 0 0 ≡ 10 → FirstVariant ds s (r .tree)
+unfolding variantsOf
 first-variant ds s r e =
-    let i = schema-variants ds s (ready-reads ds s r) e (r .tree) (r .rest) (r .reads) in
-    let l = list-behind (readSchema (ds - 1)) s (reads-some (i .0) (i .1 .0) (i .1 .1 .0)) in
-    go (i .0) (i .1 .0) (i .1 .1 .1 .0) (i .1 .1 .1 .1 .0) (sym (l .1) ∙ i .1 .1 .0) (i .1 .1 .1 .1 .1)
+    let p = union-parts ds s (r .tree) (r .rest) (r .reads) e in
+    go (p .variants) (p .behind) (p .kinds) (p .named) (p .reads-variants) (p .is)
   where
     go : (vs : List Schema) (u : List ℕ) (ks : List (ℕ × ℕ)) (ns : List ℕ) → readMany (readSchema (ds - 1)) (numberAt s 1 2) (drop 3 s) ≡ some (vs, u) → r .tree ≡ Schema.Union (variantsOf vs) ks ns → FirstVariant ds s (r .tree)
-    go [] u ks ns m q = absurd (no-variants (variants-sound (variantsOf []) ks ns (subst (λ t. T (schemaSound t)) q (r .sound)) .0))
+    go [] u ks ns m q = absurd (no-variants (union-sound (variantsOf []) ks ns (subst (λ t. T (schemaSound t)) q (r .sound)) .0))
     go (x ∷ xs) u ks ns m q =
         let n : suc (length xs) ≡ numberAt s 1 2 = many-length (readSchema (ds - 1)) (numberAt s 1 2) (drop 3 s) (x ∷ xs) u m in
-        let z = many-split (readSchema (ds - 1)) (numberAt s 1 2) (drop 3 s) (reads-some (x ∷ xs) u m) (omega arith) in
-        let j = map-inv (λ ys. z .item ∷ ys) _ (x ∷ xs) u (sym (z .joins) ∙ m) in
-        let k : x ∷ xs ≡ z .item ∷ j .0 = j .1 .1 in
+        let z = many-first (readSchema (ds - 1)) (numberAt s 1 2) (drop 3 s) (x ∷ xs) u (omega arith) m in
+        let k : x ∷ xs ≡ z .item ∷ z .others = z .cons in
         let o : z .item ≡ x = cc in
-        let q' : r .tree ≡ Schema.Union (variant x (variantsOf xs)) ks ns = q ∙ ap (λ y. Schema.Union y ks ns) (variants-first x xs) in
         record {
           lead = x;
           others = variantsOf xs;
           kinds = ks;
           named = ns;
-          rest = z .tail;
-          tree-is = q';
-          reads = z .first ∙ ap (λ y. some (y, z .tail)) o;
-          sound = lead-sound x (variantsOf xs) (variants-sound (variant x (variantsOf xs)) ks ns (subst (λ t. T (schemaSound t)) q' (r .sound)) .1);
-          short = lead-short x (variantsOf xs) ks ns (subst (λ t. T (defaultsShort t)) q' (r .short));
+          rest = z .behind;
+          tree-is = q;
+          reads = z .first ∙ ap (λ y. some (y, z .behind)) o;
+          sound = variant-sound x (variantsOf xs) (union-sound (variant x (variantsOf xs)) ks ns (subst (λ t. T (schemaSound t)) q (r .sound)) .1) .0;
+          short = lead-short x (variantsOf xs) ks ns (subst (λ t. T (defaultsShort t)) q (r .short));
         }
 
 pub first-ready : (ds : ℕ) (s : List ℕ) (r : Ready ds s) → getD s 0 0 ≡ 10 → Ready (ds - 1) (drop 3 s)
@@ -138,6 +121,9 @@ first-long ds s r e =
     let f = first-variant ds s r e in
     let h = schema-there (ds - 1) (drop 3 s) (reads-some (f .lead) (f .rest) (f .reads)) .1 in
     omega (arith, length-drop 3 s)
+
+pub first-kind : (ds : ℕ) (s : List ℕ) (r : Ready ds s) (e : getD s 0 0 ≡ 10) → schemaKind (first-variant ds s r e .lead) ≡ getD s 3 0
+first-kind ds s r e = let f = first-variant ds s r e in schema-kind (ds - 1) (drop 3 s) (f .lead) (f .rest) (f .reads) ∙ getD-drop 3 s 0 0
 
 -- ---- defaults in unions
 
@@ -166,7 +152,7 @@ module _ (ds : ℕ) (s d : List ℕ) (rd : ReadyDefault ds s d) (e : getD s 0 0 
   fv = first-variant ds s (rd .schema) e
 
   lead-kind : schemaKind (fv .lead) ≡ getD s 3 0
-  lead-kind = schema-kind (ds - 1) (drop 3 s) (fv .lead) (fv .rest) (fv .reads) ∙ getD-drop 3 s 0 0
+  lead-kind = first-kind ds s (rd .schema) e
 
   start-is : startDefault tree (rd .value) ≡ after (starts (fv .lead) (rd .value)) (λ r. ok (Value.Union 0 r))
   start-is = ap (λ t. startDefault t (rd .value)) (fv .tree-is) ∙ start-union (fv .lead) (fv .others) (fv .kinds) (fv .named) (rd .value)

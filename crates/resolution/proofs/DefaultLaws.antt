@@ -1,95 +1,42 @@
 -- What a default becomes in the first variant of its union, and whether that is short, at each way of the code.
 use Prim.Native.Nat.{ℕ, _-_, _≤_, _<_, min}
 use mathlib.Core.Path.{_≡_, refl, sym, ap, _∙_, subst}
-use mathlib.Core.List.{List, []}
-use mathlib.Core.Option.{Option, none, some}
-use mathlib.Core.Bool.{Bool, true, false, _&&_, _||_, not}
+use mathlib.Core.List.{List}
+use mathlib.Core.Bool.{Bool, true, false, _&&_, _||_, not, and-true, and-false}
 use native.Mathlib.Omega.{arith}
 use lib.Dec.{T, leb, eqb}
-use lib.ListN.{length, getD, drop, length-drop}
-use lib.Seq.{getD-drop}
+use lib.ListN.{length, getD, drop}
 use lib.Ieee.Fits.{and-l, and-r}
 use borrow.Author.Tests.{le-leb, lt-leb, leb-true, leb-false, eq-eqb, ne-eqb}
-use Rattle.base.specs.Base.{Result, ok, no, after}
-use Rattle.number.specs.Number.{numberAt, bytesOf}
-use Rattle.text.specs.Read.{Read}
+use Rattle.base.specs.Base.{ok, no, after}
+use Rattle.number.specs.Number.{bytesOf}
 use Rattle.frame.specs.Tree.{Value, Schema, Variants, variant, is, kindOf, peel, schemaKind}
 use Rattle.frame.specs.ValueFrame.{table, readValue, encodeValue, writeScalar}
-use Rattle.frame.specs.SchemaFrame.{variantsOf, readField, readSchema}
-use Rattle.frame.specs.Sound.{schemaSound, countVariants, defaultAllowed, defaultKinds, defaultScalar, keysRise}
+use Rattle.frame.specs.SchemaFrame.{readField, readSchema}
+use Rattle.frame.specs.Sound.{schemaSound, defaultAllowed, defaultKinds, defaultScalar, keysRise}
+use Rattle.frame.proofs.Reading.{read-what}
+use Rattle.frame.proofs.SchemaNodes.{schema-there, schema-kind}
 use Rattle.types.specs.Types.{Outcome}
 use Rattle.types.specs.Contract.{encoded, onBoth}
 use Rattle.buffer.specs.Built.{Built, Wrote}
 use Rattle.buffer.specs.declared.Answer.the-variants.{Accepted, Refused}
+use Rattle.schema.specs.Parts.{fieldSound}
 use Rattle.avro.specs.Resolve.{resolve, startDefault, first}
-use Rattle.avro.specs.Defaults.{defaultsShort, variantDefaultsShort, shortDefault, shortStart}
+use Rattle.avro.specs.Defaults.{defaultsShort, shortDefault, shortStart}
 use Rattle.field.specs.Parts.{FieldParts, DefaultAt}
 use Rattle.resolution.specs.Contract.{Ready, nodeBytes}
-use Rattle.resolution.specs.Shortness.{SoundRead, testRead, fieldSound, fieldShort}
+use Rattle.resolution.specs.Shortness.{SoundRead, testRead, fieldShort}
 use Rattle.field.specs.declared.FieldAt.{FieldAt}
-use Rattle.resolution.proofs.ReadParts.{reads-some, schema-there, schema-kind, many-zero}
-use Rattle.resolution.proofs.SoundParts.{same-read, test-some, short-ready, many-first, Parts, parts, union-sound, variant-sound}
+use Rattle.resolution.proofs.SoundParts.{test-some, short-ready}
+use Rattle.resolution.proofs.ReadParts.{ready-reads}
+use Rattle.resolution.proofs.Pieces.{both-some}
+use Rattle.resolution.proofs.FieldBytes.{Given, default-given, default-none}
+use Rattle.resolution.proofs.DefaultBytes.{first-variant, first-kind}
 
--- ---- the first variant of a union
-
-record FirstVariant (d : ℕ) (s : List ℕ) (t : Schema) : Type 0 where
-  head : Schema
-  behind : List ℕ
-  others : Variants
-  kinds : List (ℕ × ℕ)
-  named : List ℕ
-  reads : readSchema (d - 1) (drop 3 s) ≡ some (head, behind)
-  are : t ≡ Schema.Union (variant head others) kinds named
-
-first-of : (d : ℕ) (s : List ℕ) (t : Schema) (r : List ℕ) → readSchema d s ≡ some (t, r) → getD s 0 0 ≡ 10 → T (schemaSound t) → FirstVariant d s t
-unfolding variantsOf countVariants
-first-of d s t r e k h =
-    let p = parts d s t r e k in
-    go p (union-sound (variantsOf (p .variants)) (p .kinds) (p .named) (subst (λ u. T (schemaSound u)) (p .are) h) .0) (leb 1 (numberAt s 1 2)) refl
-  where
-    go : (p : Parts d s t) → 0 < countVariants (variantsOf (p .variants)) → (b : Bool) → leb 1 (numberAt s 1 2) ≡ b → FirstVariant d s t
-    go p c true q =
-        let f = many-first (readSchema (d - 1)) (numberAt s 1 2) (drop 3 s) (p .variants) (p .tail) (p .reads) (leb-true 1 (numberAt s 1 2) q) in
-        record { head = f .item; behind = f .tail; others = variantsOf (f .others); kinds = p .kinds; named = p .named; reads = f .reads; are = p .are ∙ ap (λ vs. Schema.Union (variantsOf vs) (p .kinds) (p .named)) (f .cons) }
-    go p c false q =
-        let z : p .variants ≡ [] = same-read _ (p .variants) [] (p .tail) (drop 3 s) (p .reads) (many-zero (readSchema (d - 1)) (numberAt s 1 2) (drop 3 s) (omega (arith, leb-false 1 (numberAt s 1 2) q))) in
-        absurd (omega (arith, c, ap (λ vs. countVariants (variantsOf vs)) z))
-
-module _ (d : ℕ) (s : List ℕ) (w : Ready d s) where
-  pub ready-there : (0 < d) × (0 < length s)
-  ready-there = schema-there d s (reads-some (w .tree) (w .rest) (w .reads))
-
-  module _ (e : getD s 0 0 ≡ 10) where
-    found : FirstVariant d s (w .tree)
-    found = first-of d s (w .tree) (w .rest) (w .reads) e (w .sound)
-
-    pub first-long : 4 ≤ length s
-    first-long =
-        let h = schema-there (d - 1) (drop 3 s) (reads-some (found .head) (found .behind) (found .reads)) in
-        omega (arith, h .1, length-drop 3 s)
-
-    pub first-ready : Ready (d - 1) (drop 3 s)
-    unfolding defaultsShort
-    first-ready =
-        let f = found in
-        let h = union-sound (variant (f .head) (f .others)) (f .kinds) (f .named) (subst (λ t. T (schemaSound t)) (f .are) (w .sound)) .1 in
-        let k : T (defaultsShort (f .head) && variantDefaultsShort (f .others)) = subst (λ t. T (defaultsShort t)) (f .are) (w .short) in
-        record {
-          tree = f .head;
-          rest = f .behind;
-          reads = f .reads;
-          sound = variant-sound (f .head) (f .others) h .0;
-          short = and-l (defaultsShort (f .head)) (variantDefaultsShort (f .others)) k;
-        }
-
-    first-kind : schemaKind (found .head) ≡ getD s 3 0
-    first-kind = schema-kind (d - 1) (drop 3 s) (found .head) (found .behind) (found .reads) ∙ getD-drop 3 s 0 0
+pub ready-there : (d : ℕ) (s : List ℕ) → Ready d s → (0 < d) × (0 < length s)
+ready-there d s w = schema-there d s (ready-reads d s w)
 
 -- ---- what a default becomes
-
-both-some : {A B C : Type 0} (f : A → B → Result C) (x : Read A) (y : Read B) (a : A) (b : B) (r u : List ℕ) → x ≡ some (a, r) → y ≡ some (b, u) → onBoth f x y ≡ f a b
-unfolding onBoth
-both-some f x y a b r u e g = ap (λ z. onBoth f z y) e ∙ ap (onBoth f (some (a, r))) g
 
 -- a default that is allowed is no Union
 no-union : (v : Value) → T (defaultKinds v) → is 10 v ≡ false
@@ -161,20 +108,20 @@ module _ (d : ℕ) (s v : List ℕ) (w : Ready d s) (g : SoundRead defaultKinds 
   module _ (e : getD s 0 0 ≡ 10) where
     pub null-short : getD s 3 0 ≡ 0 → true ≡ shortStart (onBoth startDefault (readSchema d s) (readValue 16 v))
     null-short z =
-        let f = found d s w e in
-        sym (start-is ∙ ap (λ t. shortStart (startDefault t (g .tree))) (f .are)
-        ∙ start-null (f .head) (f .others) (f .kinds) (f .named) (g .tree) (first-kind d s w e ∙ z))
+        let f = first-variant d s w e in
+        sym (start-is ∙ ap (λ t. shortStart (startDefault t (g .tree))) (f .tree-is)
+        ∙ start-null (f .lead) (f .others) (f .kinds) (f .named) (g .tree) (first-kind d s w e ∙ z))
 
     module _ (z : getD s 3 0 ≡ 0 → ⊥) (o : List ℕ) where
-      tried-is : shortStart (onBoth startDefault (readSchema d s) (readValue 16 v)) ≡ shortStart (after (resolve (found d s w e .head) (g .tree)) (λ r. ok (Value.Union 0 r)))
+      tried-is : shortStart (onBoth startDefault (readSchema d s) (readValue 16 v)) ≡ shortStart (after (resolve (first-variant d s w e .lead) (g .tree)) (λ r. ok (Value.Union 0 r)))
       tried-is =
-          let f = found d s w e in
-          start-is ∙ ap (λ t. shortStart (startDefault t (g .tree))) (f .are)
-          ∙ ap shortStart (start-tried (f .head) (f .others) (f .kinds) (f .named) (g .tree) (λ q. z (sym (first-kind d s w e) ∙ q)))
+          let f = first-variant d s w e in
+          start-is ∙ ap (λ t. shortStart (startDefault t (g .tree))) (f .tree-is)
+          ∙ ap shortStart (start-tried (f .lead) (f .others) (f .kinds) (f .named) (g .tree) (λ q. z (sym (first-kind d s w e) ∙ q)))
 
-      bytes-are : onBoth nodeBytes (readSchema (d - 1) (drop 3 s)) (readValue 16 v) ≡ encoded (resolve (found d s w e .head) (g .tree))
+      bytes-are : onBoth nodeBytes (readSchema (d - 1) (drop 3 s)) (readValue 16 v) ≡ encoded (resolve (first-variant d s w e .lead) (g .tree))
       unfolding nodeBytes
-      bytes-are = let f = found d s w e in both-some nodeBytes _ _ (f .head) (g .tree) (f .behind) (g .rest) (f .reads) (g .reads)
+      bytes-are = let f = first-variant d s w e in both-some nodeBytes _ _ (f .lead) (g .tree) (f .rest) (g .rest) (f .reads) (g .reads)
 
       pub accepted-short : (n : ℕ) → Wrote (onBoth nodeBytes (readSchema (d - 1) (drop 3 s)) (readValue 16 v)) o (Accepted n)
           → leb n 4096 ≡ shortStart (onBoth startDefault (readSchema d s) (readValue 16 v))
@@ -186,36 +133,9 @@ module _ (d : ℕ) (s v : List ℕ) (w : Ready d s) (g : SoundRead defaultKinds 
 
 -- ---- a field
 
--- the default of a field that has one
-record Given (s : List ℕ) (p : ℕ) (d : Option Value) : Type 0 where
-  value : Value
-  rest : List ℕ
-  there : d ≡ some value
-  inside : p ≤ length s
-  reads : readValue 16 (drop p s) ≡ some (value, rest)
-
-default-given : (s : List ℕ) (p : ℕ) (d : Option Value) → DefaultAt s true p d → Given s p d
-unfolding DefaultAt
-default-given s p none w = absurd w
-default-given s p (some v) w = record { value = v; rest = w .1 .0; there = refl; inside = w .0; reads = w .1 .1 }
-
-default-none : (s : List ℕ) (p : ℕ) (d : Option Value) → DefaultAt s false p d → d ≡ none
-unfolding DefaultAt
-default-none s p none w = refl
-default-none s p (some v) w = absurd w
-
-and-false : (b : Bool) → (b && false) ≡ false
-and-false true = refl
-and-false false = refl
-
-and-true : (b : Bool) → (b && true) ≡ b
-and-true true = refl
-and-true false = refl
-
 module _ (d : ℕ) (s : List ℕ) (f : FieldAt) (w : SoundRead fieldSound (readField (readSchema d) s)) (g : FieldParts d s f) where
   field-is-sound : T (defaultAllowed (g .default) && schemaSound (g .tree))
-  unfolding fieldSound
-  field-is-sound = subst (λ x. T (fieldSound x)) (same-read _ (w .tree) (g .name, g .default, g .tree) (w .rest) (g .rest) (w .reads) (g .reads)) (w .sound)
+  field-is-sound = subst (λ x. T (fieldSound x)) (read-what (sym (w .reads) ∙ g .reads)) (w .sound)
 
   pub inner-sound : SoundRead schemaSound (readSchema d (drop (f .«schema_at») s))
   inner-sound = record { tree = g .tree; rest = g .rest; reads = g .schema-at; sound = and-r (defaultAllowed (g .default)) (schemaSound (g .tree)) field-is-sound }

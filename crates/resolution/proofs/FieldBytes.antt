@@ -1,53 +1,44 @@
 -- The bytes of a map's entry and of a record's field: a name, and the bytes of its node.
-use Prim.Native.Nat.{ℕ, zero, suc, _+_, _-_, _≤_, _<_}
+use Prim.Native.Nat.{ℕ, _+_, _-_, _≤_}
 use mathlib.Core.Path.{_≡_, refl, sym, ap, _∙_, subst}
-use mathlib.Core.List.{List, [], _∷_, _++_}
+use mathlib.Core.List.{List, _++_}
 use mathlib.Core.Option.{Option, none, some}
-use mathlib.Core.Bool.{Bool, true, false}
+use mathlib.Core.Bool.{true, false}
 use native.Mathlib.Omega.{arith}
 use lib.Dec.{T}
-use lib.ListN.{length, getD, take, drop, length-drop}
+use lib.ListN.{length, take, drop, length-drop}
 use lib.Seq.{length-take-le, take-add}
 use Rattle.base.specs.Base.{Result, ok, no, after}
 use Rattle.number.specs.Number.{allBytes, bigEndian, numberAt, bytesOf}
 use Rattle.number.proofs.Laws.{allBytes-take, bytesOf-bigEndian}
-use Rattle.text.specs.Text.{Text}
-use Rattle.text.specs.Read.{Read, _>>=_, readCounted, readText}
+use Rattle.text.specs.Read.{Read, readCounted, readText}
 use Rattle.text.specs.Measured.{Reads}
-use Rattle.text.proofs.ReadLaws.{reads-counted, reads-text, readText-counted}
-use Rattle.frame.specs.Tree.{Value, Entries, Schema, entries}
-use Rattle.frame.specs.Readers.{readOption}
+use Rattle.text.proofs.ReadLaws.{reads-counted, readText-counted}
+use Rattle.frame.specs.Tree.{Value, Schema, entries}
 use Rattle.frame.specs.ValueFrame.{readEntry, readValue, writeText}
 use Rattle.frame.specs.SchemaFrame.{readField, readSchema}
 use Rattle.frame.specs.Sound.{schemaSound}
-use Rattle.types.specs.Types.{Outcome}
+use Rattle.frame.proofs.Reading.{read-what, read-rest, bind-inv, map-inv, reads-some}
 use Rattle.avro.specs.Resolve.{lookup, fieldValue, startDefault}
 use Rattle.avro.specs.Defaults.{defaultsShort, shortDefault}
-use Rattle.find.specs.Find.{Keyed, Located, entryUnder}
+use Rattle.find.specs.Find.{Located, entryUnder}
 use Rattle.field.specs.Parts.{DefaultAt, FieldParts}
 use Rattle.types.specs.Contract.{onBoth}
+use Rattle.find.proofs.FindLaws.{located-at, located-nothing}
+use Rattle.schema.specs.Parts.{Field}
+use Rattle.schema.proofs.Seeking.{field-name as name-read}
 use Rattle.resolution.specs.Contract.{Ready, ReadyField, ReadyDefault, nodeBytes, entryBytes, defaultBytes, fieldBytes}
-use Rattle.find.specs.declared.Found.{Found}
 use Rattle.find.specs.declared.Found.the-variants.{At, Nothing}
 use Rattle.field.specs.declared.FieldAt.{FieldAt}
-use Rattle.resolution.proofs.ReadParts.{mapRead, reads-some, reads-eq, reads-first, bind-inv, bind-some, map-inv}
 use Rattle.resolution.proofs.Pieces.{both-some, front}
-use Rattle.resolution.proofs.ChildBytes.{Field}
 
 -- ---- a name, as it is written
-
--- two things that were read from the same part
-same-read : {A : Type 0} (x : Read A) (a b : A) (r u : List ℕ) → x ≡ some (a, r) → x ≡ some (b, u) → (a ≡ b) × (r ≡ u)
-same-read {A} x a b r u p q =
-    let f : _≡_ {A = Read A} (some (a, r)) (some (b, u)) = sym p ∙ q in
-    let g : _≡_ {A = A × List ℕ} (a, r) (b, u) = cc in
-    (ap (λ (y : A × List ℕ). y .0) g, ap (λ (y : A × List ℕ). y .1) g)
 
 pub text-head : (s x t : List ℕ) → T (allBytes s) → readCounted s ≡ some (x, t) → take (length x + 2) s ≡ writeText x
 unfolding writeText
 text-head s x t b e =
     let k = reads-counted s (reads-some x t e) in
-    let q : x ≡ take (numberAt s 0 2) (drop 2 s) = same-read (readCounted s) x (take (numberAt s 0 2) (drop 2 s)) t (drop (2 + numberAt s 0 2) s) e (k .is) .0 in
+    let q : x ≡ take (numberAt s 0 2) (drop 2 s) = read-what (sym e ∙ k .is) in
     let l : length x ≡ numberAt s 0 2 = ap length q ∙ length-take-le (numberAt s 0 2) (drop 2 s) (omega (arith, length-drop 2 s, k .room)) in
     let l₂ : length (take 2 s) ≡ 2 = length-take-le 2 s (k .two) in
     let h : bytesOf 2 (numberAt s 0 2) ≡ take 2 s = ap (λ (j : ℕ). bytesOf j (bigEndian (take 2 s))) (sym l₂) ∙ bytesOf-bigEndian (take 2 s) (allBytes-take 2 s b) in
@@ -61,23 +52,19 @@ text-head s x t b e =
 -- the name of what was read behind a text
 name-is : (s name t x : List ℕ) → readText s ≡ some (name, t) → readCounted s ≡ some (x, drop (2 + length x) s) → (name ≡ x) × (t ≡ drop (length x + 2) s)
 name-is s name t x e f =
-    let p = same-read (readCounted s) name x t (drop (2 + length x) s) (readText-counted s name t e .0) f in
+    let p = sym (readText-counted s name t e .0) ∙ f in
     let n : 2 + length x ≡ length x + 2 = omega arith in
-    (p .0, p .1 ∙ ap (λ (j : ℕ). drop j s) n)
+    (read-what p, read-rest p ∙ ap (λ (j : ℕ). drop j s) n)
 
 -- ---- entries
-
-pub entry-counted : (node : List ℕ → Read Value) (s : List ℕ) → Reads (readEntry node s) → Reads (readCounted s)
-unfolding readEntry
-entry-counted node s p = reads-text s (reads-first (readText s) _ p)
 
 module _ (node : List ℕ → Read Value) (s x : List ℕ) (p : Reads (readEntry node s)) (e : readCounted s ≡ some (x, drop (2 + length x) s)) where
   entry-parts : (w : Value) × ((u : List ℕ) × ((node (drop (length x + 2) s) ≡ some (w, u)) × (readEntry node s ≡ some ((x, w), u))))
   unfolding readEntry Reads
   entry-parts =
-      let i = bind-inv (readText s) _ (p .0) (p .1 .0) (p .1 .1) in
-      let n = name-is s (i .0) (i .1 .0) x (i .1 .1 .0) e in
-      let j = map-inv (λ v. (i .0, v)) (node (i .1 .0)) (p .0) (p .1 .0) (i .1 .1 .1) in
+      let i = bind-inv (readText s) _ (p .0, p .1 .0) (p .1 .1) in
+      let n = name-is s (i .0 .0) (i .0 .1) x (i .1 .0) e in
+      let j = map-inv (λ v. (i .0 .0, v)) (node (i .0 .1)) (p .0) (p .1 .0) (i .1 .1) in
       let k : p .0 ≡ (x, j .0) = j .1 .1 ∙ ap (λ y. (y, j .0)) (n .0) in
       (j .0, (p .1 .0, (ap node (sym (n .1)) ∙ j .1 .0, p .1 .1 ∙ ap (λ y. some (y, p .1 .0)) k)))
 
@@ -95,17 +82,10 @@ entry-whole ds dv s v x r p b e =
 
 -- ---- fields
 
-pub field-counted : (node : List ℕ → Read Schema) (s : List ℕ) → Reads (readField node s) → Reads (readCounted s)
-unfolding readField
-field-counted node s p = reads-text s (reads-first (readText s) _ p)
-
 field-name : (node : List ℕ → Read Schema) (s x : List ℕ) (f : Field) (r : List ℕ) → readField node s ≡ some (f, r) → readCounted s ≡ some (x, drop (2 + length x) s) → f .0 ≡ x
-unfolding readField
 field-name node s x f r e q =
-    let i = bind-inv (readText s) _ f r e in
-    let j = bind-inv (readOption (readValue 16) (i .1 .0)) _ f r (i .1 .1 .1) in
-    let k = map-inv (λ g. (i .0, j .0, g)) (node (j .1 .0)) f r (j .1 .1 .1) in
-    ap (λ (y : Field). y .0) (k .1 .1) ∙ name-is s (i .0) (i .1 .0) x (i .1 .1 .0) q .0
+    let i = name-read node s f r e in
+    read-what (sym (i .1) ∙ q)
 
 pub ready-field-reads : (ds : ℕ) (s : List ℕ) → ReadyField ds s → Reads (readField (readSchema ds) s)
 ready-field-reads ds s r = reads-some (r .name, r .default, r .tree) (r .rest) (r .reads)
@@ -115,9 +95,27 @@ unfolding after
 front-after h (no k) g = refl
 front-after h (ok a) g = refl
 
+-- the default of a field that has one
+pub record Given (s : List ℕ) (p : ℕ) (d : Option Value) : Type 0 where
+  pub value : Value
+  pub rest : List ℕ
+  pub there : d ≡ some value
+  pub inside : p ≤ length s
+  pub reads : readValue 16 (drop p s) ≡ some (value, rest)
+
+pub default-given : (s : List ℕ) (p : ℕ) (d : Option Value) → DefaultAt s true p d → Given s p d
+unfolding DefaultAt
+default-given s p none w = absurd w
+default-given s p (some v) w = record { value = v; rest = w .1 .0; there = refl; inside = w .0; reads = w .1 .1 }
+
+pub default-none : (s : List ℕ) (p : ℕ) (d : Option Value) → DefaultAt s false p d → d ≡ none
+unfolding DefaultAt
+default-none s p none w = refl
+default-none s p (some v) w = absurd w
+
 module _ (ds : ℕ) (s : List ℕ) (rf : ReadyField ds s) (f : FieldAt) (fp : FieldParts ds s f) where
   same-field : _≡_ {A = Field} (rf .name, rf .default, rf .tree) (fp .name, fp .default, fp .tree)
-  same-field = same-read {A = Field} (readField (readSchema ds) s) (rf .name, rf .default, rf .tree) (fp .name, fp .default, fp .tree) (rf .rest) (fp .rest) (rf .reads) (fp .reads) .0
+  same-field = read-what (sym (rf .reads) ∙ fp .reads)
 
   pub field-inside : f .«schema_at» ≤ length s
   field-inside = fp .inside
@@ -148,72 +146,56 @@ module _ (ds : ℕ) (s : List ℕ) (rf : ReadyField ds s) (f : FieldAt) (fp : Fi
         ∙ ap (λ y. after (fieldValue o (fp .default) (λ d. startDefault (fp .tree) d)) (λ z. front y (nodeBytes (fp .tree) z))) (sym (text-head s x (drop (2 + length x) s) b e))
 
     module _ (p : ℕ) (l : Located (entryUnder x (readValue dv v)) (dv - 1) v (At p)) where
-      found-parts : (w : Value) × ((entryUnder x (readValue dv v) ≡ some w) × ((p ≤ length v) × ((r : List ℕ) × (readValue (dv - 1) (drop p v) ≡ some (w, r)))))
-      found-parts = go (entryUnder x (readValue dv v)) l
-        where
-          go : (o : Option Value) → Located o (dv - 1) v (At p) → (w : Value) × ((o ≡ some w) × ((p ≤ length v) × ((r : List ℕ) × (readValue (dv - 1) (drop p v) ≡ some (w, r)))))
-          go none l = absurd (unfold Located in l)
-          go (some w) l = unfold Located in (w, (refl, (l .0, (l .1 .0, l .1 .1))))
+      found-parts : (p ≤ length v) × ((w : Value) × ((entryUnder x (readValue dv v) ≡ some w) × ((r : List ℕ) × (readValue (dv - 1) (drop p v) ≡ some (w, r)))))
+      found-parts = located-at (entryUnder x (readValue dv v)) (dv - 1) v p l
 
       pub found-inside : p ≤ length v
-      found-inside = found-parts .1 .1 .0
+      found-inside = found-parts .0
 
       pub found-value : Reads (readValue (dv - 1) (drop p v))
-      found-value = reads-some (found-parts .0) (found-parts .1 .1 .1 .0) (found-parts .1 .1 .1 .1)
+      found-value = let i = found-parts .1 in reads-some (i .0) (i .1 .1 .0) (i .1 .1 .1)
 
       pub field-found : onBoth fieldBytes (readField (readSchema ds) s) (readValue dv v) ≡ front (take (length x + 2) s) (onBoth nodeBytes (readSchema ds (drop (f .«schema_at») s)) (readValue (dv - 1) (drop p v)))
       unfolding fieldValue after
       field-found =
-          let i = found-parts in
+          let i = found-parts .1 in
           field-open (some (i .0)) (i .1 .0)
-          ∙ ap (front (take (length x + 2) s)) (sym (both-some nodeBytes _ _ (fp .tree) (i .0) (fp .rest) (i .1 .1 .1 .0) (fp .schema-at) (i .1 .1 .1 .1)))
+          ∙ ap (front (take (length x + 2) s)) (sym (both-some nodeBytes _ _ (fp .tree) (i .0) (fp .rest) (i .1 .1 .0) (fp .schema-at) (i .1 .1 .1)))
 
     module _ (l : Located (entryUnder x (readValue dv v)) (dv - 1) v Nothing) where
       not-found : entryUnder x (readValue dv v) ≡ none
-      not-found = go (entryUnder x (readValue dv v)) l
-        where
-          go : (o : Option Value) → Located o (dv - 1) v Nothing → o ≡ none
-          go none l = refl
-          go (some w) l = absurd (unfold Located in l)
+      not-found = located-nothing (entryUnder x (readValue dv v)) (dv - 1) v l
 
       pub field-none : f .default ≡ false → onBoth fieldBytes (readField (readSchema ds) s) (readValue dv v) ≡ no 17
       unfolding fieldValue after
-      field-none h = field-open none not-found ∙ ap (λ y. after (fieldValue none y (λ d. startDefault (fp .tree) d)) (λ y. front (take (length x + 2) s) (nodeBytes (fp .tree) y))) (go (fp .default) (rw h at (fp .default-at)))
-        where
-          go : (o : Option Value) → DefaultAt s false (f .«default_at») o → o ≡ none
-          go none l = refl
-          go (some d) l = absurd (unfold DefaultAt in l)
+      field-none h = field-open none not-found ∙ ap (λ y. after (fieldValue none y (λ d. startDefault (fp .tree) d)) (λ y. front (take (length x + 2) s) (nodeBytes (fp .tree) y))) (default-none s (f .«default_at») (fp .default) (rw h at (fp .default-at)))
 
   module _ (h : f .default ≡ true) where
-    default-parts : (d : Value) × ((fp .default ≡ some d) × ((f .«default_at» ≤ length s) × ((r : List ℕ) × (readValue 16 (drop (f .«default_at») s) ≡ some (d, r)))))
-    default-parts = go (fp .default) (rw h at (fp .default-at))
-      where
-        go : (o : Option Value) → DefaultAt s true (f .«default_at») o → (d : Value) × ((o ≡ some d) × ((f .«default_at» ≤ length s) × ((r : List ℕ) × (readValue 16 (drop (f .«default_at») s) ≡ some (d, r)))))
-        go none l = absurd (unfold DefaultAt in l)
-        go (some d) l = unfold DefaultAt in (d, (refl, (l .0, (l .1 .0, l .1 .1))))
+    given : Given s (f .«default_at») (fp .default)
+    given = default-given s (f .«default_at») (fp .default) (rw h at (fp .default-at))
 
     pub default-inside : f .«default_at» ≤ length s
-    default-inside = default-parts .1 .1 .0
+    default-inside = given .inside
 
     pub field-default : ReadyDefault ds (drop (f .«schema_at») s) (drop (f .«default_at») s)
     unfolding field-schema
     field-default =
-        let i = default-parts in
+        let i = given in
         let q : T (shortDefault (fp .tree) (fp .default)) = subst (λ (y : Field). T (shortDefault (y .2) (y .1))) same-field (rf .start) in
         record {
           schema = field-schema;
-          value = i .0;
-          rest = i .1 .1 .1 .0;
-          reads = i .1 .1 .1 .1;
-          start = subst (λ o. T (shortDefault (fp .tree) o)) (i .1 .0) q;
+          value = i .value;
+          rest = i .rest;
+          reads = i .reads;
+          start = subst (λ o. T (shortDefault (fp .tree) o)) (i .there) q;
         }
 
     pub field-defaults : (dv : ℕ) (v x : List ℕ) (pv : Reads (readValue dv v)) → T (allBytes s) → readCounted s ≡ some (x, drop (2 + length x) s) → Located (entryUnder x (readValue dv v)) (dv - 1) v Nothing
         → onBoth fieldBytes (readField (readSchema ds) s) (readValue dv v) ≡ front (take (length x + 2) s) (onBoth defaultBytes (readSchema ds (drop (f .«schema_at») s)) (readValue 16 (drop (f .«default_at») s)))
     unfolding fieldValue defaultBytes
     field-defaults dv v x pv b e l =
-        let i = default-parts in
+        let i = given in
         field-open dv v x pv b e none (not-found dv v x pv b e l)
-        ∙ ap (λ y. after (fieldValue none y (λ d. startDefault (fp .tree) d)) (λ y. front (take (length x + 2) s) (nodeBytes (fp .tree) y))) (i .1 .0)
-        ∙ front-after (take (length x + 2) s) (startDefault (fp .tree) (i .0)) (λ w. nodeBytes (fp .tree) w)
-        ∙ ap (front (take (length x + 2) s)) (sym (both-some defaultBytes _ _ (fp .tree) (i .0) (fp .rest) (i .1 .1 .1 .0) (fp .schema-at) (i .1 .1 .1 .1)))
+        ∙ ap (λ y. after (fieldValue none y (λ d. startDefault (fp .tree) d)) (λ y. front (take (length x + 2) s) (nodeBytes (fp .tree) y))) (i .there)
+        ∙ front-after (take (length x + 2) s) (startDefault (fp .tree) (i .value)) (λ w. nodeBytes (fp .tree) w)
+        ∙ ap (front (take (length x + 2) s)) (sym (both-some defaultBytes _ _ (fp .tree) (i .value) (fp .rest) (i .rest) (fp .schema-at) (i .reads)))

@@ -1,26 +1,27 @@
 -- The loop over the fields of a record schema: those to come are sound, and their defaults short.
-use Prim.Native.Nat.{ℕ, _+_, _-_, _≤_, _<_, min}
-use mathlib.Core.Path.{_≡_, refl, sym, ap, _∙_, subst}
-use mathlib.Core.List.{List, [], _∷_, _++_}
-use mathlib.Core.Option.{Option, none, some}
+use Prim.Native.Nat.{ℕ, _+_, _-_, _<_, min}
+use mathlib.Core.Path.{_≡_, refl, ap, _∙_}
+use mathlib.Core.List.{List, _∷_, _++_}
+use mathlib.Core.Option.{some}
 use lib.Dec.{T}
 use lib.ListN.{length, getD, take, drop}
-use Rattle.base.specs.Base.{Result, ok, no}
 use Rattle.number.specs.Number.{allBytes, numberAt}
 use Rattle.text.specs.Read.{Read}
 use Rattle.text.specs.Measured.{Reads}
+use Rattle.schema.specs.Parts.{Field}
 use Rattle.frame.specs.Readers.{readMany}
 use Rattle.frame.specs.Checks.{Spans}
 use Rattle.frame.specs.ValueFrame.{readValue}
 use Rattle.frame.specs.SchemaFrame.{readField, readSchema}
+use Rattle.frame.proofs.Reading.{bind-some}
+use Rattle.frame.proofs.Counting.{Split, many-split}
 use Rattle.types.specs.Contract.{onRead, onBoth}
 use Rattle.buffer.specs.Built.{Built, Wrote}
 use Rattle.buffer.specs.declared.Answer.the-variants.{Accepted}
 use Rattle.find.specs.Find.{Keyed}
 use Rattle.resolution.specs.Contract.{Ready, ReadyField, peeledBytes, fieldBytes}
-use Rattle.resolution.proofs.ReadParts.{bind-some, Split, many-split}
 use Rattle.resolution.proofs.Pieces.{onSecond, Loop, going-start, loop-step, loop-tail}
-use Rattle.resolution.proofs.ChildBytes.{Field, FineFields, fine-first, fine-rest, fields-fine, fields-long, fields-others, fields-start}
+use Rattle.resolution.proofs.ChildBytes.{FineFields, fine-first, fine-rest, fields-fine, fields-long, fields-others, fields-start}
 
 abbrev FieldReads : ℕ → List ℕ → ℕ → ℕ → Read (List Field)
 FieldReads ds s left from = readMany (readField (readSchema (ds - 1))) left (drop from s)

@@ -20,13 +20,13 @@ use Rattle.text.proofs.ReadLaws.{readNumber-some, readNumber-none}
 use Rattle.frame.specs.Tree.{Value, Schema, UuidForm}
 use Rattle.frame.specs.Readers.{readList, readOption}
 use Rattle.frame.specs.SchemaFrame.{readSchemaContent, readSchema}
+use Rattle.frame.proofs.Reading.{bind-inv, map-inv, not-reads, option-empty, option-zero, option-one-none, option-one-some, option-other}
+use Rattle.frame.proofs.SchemaNodes.{schema-opened}
 use Rattle.types.specs.Types.{Outcome, resolvePlain, resolve-bytes, resolve-string, resolve-fixed, resolve-decimal, resolve-uuid, resolve-duration}
 use Rattle.types.specs.Contract.{encoded, onRead, onBoth}
 use Rattle.types.specs.Search.{resolveEnumAt}
-use Rattle.schema.proofs.Nodes.{node-open}
-use Rattle.schema.proofs.Leaves.{option-empty, option-zero, option-one-none, option-one-some, option-other, fixed-got, fixed-none, decimal-none, decimal-got, decimal-later, uuid-empty, uuid-bytes, uuid-string, uuid-short, uuid-fixed, uuid-other, duration-got, duration-none, plain-low, plain-high, kind-past}
-use Rattle.resolution.specs.Contract.{Childless, Ready, resolvePeeled, peeledBytes}
-use Rattle.resolution.proofs.ReadParts.{reads-some, not-reads, bind-inv, map-inv, schema-there}
+use Rattle.schema.proofs.Leaves.{fixed-got, fixed-none, decimal-none, decimal-got, decimal-later, uuid-empty, uuid-bytes, uuid-string, uuid-short, uuid-fixed, uuid-other, duration-got, duration-none, plain-low, plain-high, kind-past}
+use Rattle.resolution.specs.Contract.{Childless, resolvePeeled, peeledBytes}
 
 at-least : (n m : ℕ) → (m < n → ⊥) → n ≤ m
 at-least n m f = omega arith
@@ -34,20 +34,15 @@ at-least n m f = omega arith
 -- ---- trees and lengths
 
 module _ (d : ℕ) (s : List ℕ) (p : Reads (readSchema d s)) where
-  content-is : (k : ℕ) → getD s 0 0 ≡ k → readSchema d s ≡ readSchemaContent (readSchema (d - 1)) k (drop 1 s)
-  content-is k e =
-      let t = schema-there d s p in
-      node-open d s (λ h. omega arith) (λ h. omega arith) ∙ ap (λ j. readSchemaContent (readSchema (d - 1)) j (drop 1 s)) e
-
   never : (k : ℕ) → getD s 0 0 ≡ k → readSchemaContent (readSchema (d - 1)) k (drop 1 s) ≡ none → ⊥
-  never k e g = not-reads _ (content-is k e ∙ g) p
+  never k e g = not-reads _ (schema-opened d s p k e ∙ g) p
 
   -- the byte at n
   byte-at : (n : ℕ) → getD (drop n s) 0 0 ≡ getD s n 0
   byte-at n = getD-drop n s 0 0 ∙ ap (λ m. getD s m 0) (add-zero n)
 
   plain-tree : (k : ℕ) → getD s 0 0 ≡ k → k ≤ 24 → (7 < k → 16 ≤ k) → readSchema d s ≡ some (Schema.Plain k, drop 1 s)
-  plain-tree k e h g = content-is k e ∙ go (leb k 7) refl
+  plain-tree k e h g = schema-opened d s p k e ∙ go (leb k 7) refl
     where
       go : (b : Bool) → leb k 7 ≡ b → readSchemaContent (readSchema (d - 1)) k (drop 1 s) ≡ some (Schema.Plain k, drop 1 s)
       go true q = plain-low _ _ k (omega (arith, leb-true k 7 q))
@@ -69,13 +64,13 @@ module _ (d : ℕ) (s : List ℕ) (p : Reads (readSchema d s)) where
         omega (arith, length-drop 1 s)
 
     fixed-tree : readSchema d s ≡ some (Schema.Fixed (numberAt s 1 2), drop 2 (drop 1 s))
-    fixed-tree = content-is 13 e ∙ fixed-got _ _ (omega (arith, length-drop 1 s, fixed-long))
+    fixed-tree = schema-opened d s p 13 e ∙ fixed-got _ _ (omega (arith, length-drop 1 s, fixed-long))
 
   -- ---- Duration
 
   module _ (e : getD s 0 0 ≡ 25) where
     duration-tree : readSchema d s ≡ some (Schema.Duration (numberAt s 1 2), drop 2 (drop 1 s))
-    duration-tree = content-is 25 e ∙ duration-got _ _ (at-least _ _ (λ h. never 25 e (duration-none _ _ h)))
+    duration-tree = schema-opened d s p 25 e ∙ duration-got _ _ (at-least _ _ (λ h. never 25 e (duration-none _ _ h)))
 
   -- ---- Decimal
 
@@ -94,7 +89,7 @@ module _ (d : ℕ) (s : List ℕ) (p : Reads (readSchema d s)) where
 
     decimal-tree : (n : Option ℕ) (m : ℕ) → readOption (readNumber 2) (drop 9 s) ≡ some (n, drop m (drop 9 s)) → readSchema d s ≡ some (Schema.Decimal (numberAt s 1 4) (numberAt s 5 4) n, drop (8 + m) (drop 1 s))
     decimal-tree n m g =
-        content-is 14 e
+        schema-opened d s p 14 e
         ∙ decimal-got _ _ decimal-head n m (ap (readOption (readNumber 2)) (drop-drop 8 1 s) ∙ g ∙ ap (λ u. some (n, drop m u)) (sym (drop-drop 8 1 s)))
         ∙ ap (λ u. some (Schema.Decimal (numberAt s 1 4) (bigEndian (take 4 u)) n, drop (8 + m) (drop 1 s))) (drop-drop 4 1 s)
 
@@ -124,10 +119,10 @@ module _ (d : ℕ) (s : List ℕ) (p : Reads (readSchema d s)) where
     uuid-long = omega (arith, length-drop 1 s, form-head)
 
     bytes-tree : getD s 1 0 ≡ 0 → readSchema d s ≡ some (Schema.Uuid UuidForm.bytes, drop 1 (drop 1 s))
-    bytes-tree h = content-is 15 e ∙ uuid-bytes _ _ form-head (byte-at 1 ∙ h)
+    bytes-tree h = schema-opened d s p 15 e ∙ uuid-bytes _ _ form-head (byte-at 1 ∙ h)
 
     string-tree : getD s 1 0 ≡ 1 → readSchema d s ≡ some (Schema.Uuid UuidForm.string, drop 1 (drop 1 s))
-    string-tree h = content-is 15 e ∙ uuid-string _ _ form-head (byte-at 1 ∙ h)
+    string-tree h = schema-opened d s p 15 e ∙ uuid-string _ _ form-head (byte-at 1 ∙ h)
 
     module _ (f : getD s 1 0 ≡ 0 → ⊥) (g : getD s 1 0 ≡ 1 → ⊥) where
       form-two : getD (drop 1 s) 0 0 ≡ 2
@@ -140,7 +135,7 @@ module _ (d : ℕ) (s : List ℕ) (p : Reads (readSchema d s)) where
       uuid-fixed-long = omega (arith, length-drop 1 s, form-size)
 
       uuid-fixed-tree : readSchema d s ≡ some (Schema.Uuid (UuidForm.fixed (numberAt s 2 2)), drop 3 (drop 1 s))
-      uuid-fixed-tree = content-is 15 e ∙ uuid-fixed _ _ form-size form-two ∙ ap (λ u. some (Schema.Uuid (UuidForm.fixed (bigEndian (take 2 u))), drop 3 (drop 1 s))) (drop-drop 1 1 s)
+      uuid-fixed-tree = schema-opened d s p 15 e ∙ uuid-fixed _ _ form-size form-two ∙ ap (λ u. some (Schema.Uuid (UuidForm.fixed (bigEndian (take 2 u))), drop 3 (drop 1 s))) (drop-drop 1 1 s)
 
   -- ---- Enum
 
@@ -148,9 +143,9 @@ module _ (d : ℕ) (s : List ℕ) (p : Reads (readSchema d s)) where
     enum-tree : (t : Schema) (r : List ℕ) → readSchema d s ≡ some (t, r) → (ss : List Text) × ((q : Option Text) × (t ≡ Schema.Enum ss q))
     unfolding readSchemaContent
     enum-tree t r g =
-        let i = bind-inv (readList readText (drop 1 s)) _ t r (sym (content-is 12 e) ∙ g) in
-        let j = map-inv (λ q. Schema.Enum (i .0) q) (readOption readText (i .1 .0)) t r (i .1 .1 .1) in
-        (i .0, (j .0, j .1 .1))
+        let i = bind-inv (readList readText (drop 1 s)) _ (t, r) (sym (schema-opened d s p 12 e) ∙ g) in
+        let j = map-inv (λ q. Schema.Enum (i .0 .0) q) (readOption readText (i .0 .1)) t r (i .1 .1) in
+        (i .0 .0, (j .0, j .1 .1))
 
 -- ---- outcomes
 
@@ -231,8 +226,3 @@ plain-kind s w f6 f7 f12 f13 f14 f15 h =
     let h12 : 12 ≤ getD s 0 0 = next 11 _ (next 10 _ h10 (w .no-union)) (w .no-fields) in
     let h14 : 14 ≤ getD s 0 0 = next 13 _ (next 12 _ h12 f12) f13 in
     next 15 _ (next 14 _ h14 f14) f15
-
--- ---- what was checked
-
-pub ready-reads : (d : ℕ) (s : List ℕ) → Ready d s → Reads (readSchema d s)
-ready-reads d s w = reads-some (w .tree) (w .rest) (w .reads)

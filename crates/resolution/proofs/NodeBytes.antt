@@ -1,38 +1,37 @@
 -- The bytes of a resolved Array, Map and Record: a header and then those of each child; and what a sound schema says of its parts.
-use Prim.Native.Nat.{ℕ, zero, suc, _+_, _-_, _≤_, _<_}
-use mathlib.Core.Path.{_≡_, refl, sym, ap, _∙_, subst}
-use mathlib.Core.Logic.{_⊎_, ⊎-elim, inl, inr}
-use mathlib.Core.List.{List, [], _∷_, _++_, append-assoc}
-use mathlib.Core.Option.{Option, none, some}
-use mathlib.Core.Bool.{Bool, true, false, _&&_, _||_, not}
+use Prim.Native.Nat.{ℕ, suc, _-_, _≤_}
+use mathlib.Core.Path.{_≡_, refl, sym, ap, _∙_}
+use mathlib.Core.List.{List, [], _∷_}
+use mathlib.Core.Option.{none, some}
 use native.Mathlib.Omega.{arith}
-use lib.Dec.{T, eqb}
-use lib.ListN.{length, getD, take, drop, length-drop}
+use lib.Dec.{T}
+use lib.ListN.{length, getD, take, drop}
 use lib.Seq.{length-take-le}
-use lib.Ieee.Fits.{and-l, and-r}
-use borrow.Author.Tests.{eq-eqb, ne-eqb}
-use Rattle.base.specs.Base.{if_then_else_, Result, ok, no, after}
+use borrow.Author.Tests.{ne-eqb}
+use Rattle.base.specs.Base.{Result, ok, no, after}
 use Rattle.number.specs.Number.{allBytes, bigEndian, numberAt, bytesOf}
 use Rattle.number.proofs.Laws.{allBytes-take, allBytes-tail, bytesOf-bigEndian}
-use Rattle.text.specs.Text.{Text}
-use Rattle.text.specs.Read.{Read, _>>=_}
+use Rattle.text.specs.Read.{Read}
 use Rattle.text.specs.Measured.{Reads}
 use Rattle.frame.specs.Kind
-use Rattle.frame.specs.Tree.{Value, Values, Entries, Schema, Fields, noItems, item, noEntries, entry, noFields, field, kindOf, is, items, entries, peel, schemaKind}
-use Rattle.frame.specs.Readers.{readMany, readList}
-use Rattle.frame.specs.ValueFrame.{itemsOf, entriesOf, readEntry, readValue, writeText, countItems, countEntries, encodeValue, encodeItems, encodeEntries}
-use Rattle.frame.specs.SchemaFrame.{fieldsOf, readField, readSchema}
-use Rattle.frame.specs.Sound.{schemaSound, fieldsSound, hasField, defaultAllowed}
-use Rattle.frame.proofs.ReadBack.{value-exact}
+use Rattle.frame.specs.Tree.{Value, Values, Schema, noItems, item, kindOf, items, peel}
+use Rattle.frame.specs.Readers.{readMany}
+use Rattle.frame.specs.ValueFrame.{itemsOf, readValue, countItems, encodeValue, encodeItems}
+use Rattle.frame.specs.SchemaFrame.{readSchema}
+use Rattle.frame.specs.Sound.{schemaSound}
+use Rattle.frame.proofs.Reading.{bind-some, map-inv, reads-eq, reads-first}
+use Rattle.frame.proofs.Counting.{many-length}
+use Rattle.frame.proofs.ValueNodes.{value-kind}
 use Rattle.types.specs.Types.{Outcome}
 use Rattle.types.specs.Contract.{encoded, onRead, onBoth}
-use Rattle.avro.specs.Union.{resolve-union, find-schema-with-known-schemata, inUnion}
-use Rattle.avro.specs.Resolve.{eachItem, eachEntry, resolve-array, resolve-map, lookup, fieldValue, resolve-record, resolve, resolveFields, startDefault, trials}
-use Rattle.avro.specs.Defaults.{defaultsShort, fieldDefaultsShort, shortDefault}
-use Rattle.find.specs.Find.{Keyed, peelRead}
-use Rattle.resolution.specs.Contract.{Ready, ReadyField, resolvePeeled, nodeBytes, peeledBytes, entryBytes, fieldBytes}
-use Rattle.resolution.proofs.ReadParts.{mapRead, reads-some, reads-eq, reads-first, bind-some, map-inv, many-length, value-array, value-map, schema-array, schema-map, schema-fields, schema-kind, Split, many-split}
-use Rattle.resolution.proofs.Pieces.{both-some, onFirst, onSecond, front, eachBytes}
+use Rattle.avro.specs.Union.{resolve-union}
+use Rattle.avro.specs.Resolve.{eachItem, resolve-array, resolve}
+use Rattle.avro.specs.Defaults.{defaultsShort}
+use Rattle.find.specs.Find.{peelRead}
+use Rattle.find.proofs.PeelLaws.{peel-reads as peeled-reads}
+use Rattle.resolution.specs.Contract.{Ready, resolvePeeled, nodeBytes, peeledBytes}
+use Rattle.resolution.proofs.ReadParts.{value-array, schema-array, schema-map, ready-reads}
+use Rattle.resolution.proofs.Pieces.{both-some, onFirst, front, eachBytes}
 
 -- ---- peeling
 
@@ -63,30 +62,9 @@ both-peel x y z e = go x y ∙ ap (onBoth peeledBytes x) (sym e)
     go (some x) (some y) = unfold onBoth peelRead in node-peel (x .0) (y .0)
 
 pub peel-reads : (y z : Read Value) → z ≡ peelRead y → Reads y → Reads z
-unfolding Reads peelRead
-peel-reads y z e p = (peel (p .0), (p .1 .0, e ∙ rw (p .1 .1)))
-
--- ---- the kind of a value that was read
-
-kind-first : (w : Value) (r : List ℕ) → getD (encodeValue w ++ r) 0 0 ≡ kindOf w
-unfolding encodeValue kindOf
-kind-first (Value.Scalar k n) r = refl
-kind-first (Value.Octets k b) r = refl
-kind-first (Value.Enum i s) r = refl
-kind-first (Value.Array vs) r = refl
-kind-first (Value.Map es) r = refl
-kind-first (Value.Record es) r = refl
-kind-first (Value.Union i v) r = refl
-
-pub value-kind : (d : ℕ) (s : List ℕ) (w : Value) (r : List ℕ) → T (allBytes s) → readValue d s ≡ some (w, r) → getD s 0 0 ≡ kindOf w
-value-kind d s w r b e =
-    let x = rw e at (value-exact d s b) in
-    ap (λ l. getD l 0 0) (x .1) ∙ kind-first w r
+peel-reads y z e p = reads-eq _ _ (sym e) (peeled-reads y p)
 
 -- ---- parts of a sound schema
-
-pub ready-reads : (d : ℕ) (s : List ℕ) → Ready d s → Reads (readSchema d s)
-ready-reads d s r = reads-some (r .tree) (r .rest) (r .reads)
 
 sound-array : (t i : Schema) → t ≡ Schema.Array i → T (schemaSound t) → T (defaultsShort t) → T (schemaSound i) × T (defaultsShort i)
 unfolding schemaSound defaultsShort
@@ -172,7 +150,7 @@ module _ (ds dv : ℕ) (s v : List ℕ) (r : Ready ds s) (pv : Reads (readValue 
       let i = item-inv ds s r es in
       both-some peeledBytes _ _ (r .tree) (pv .0) (r .rest) (pv .1 .0) (r .reads) (pv .1 .1)
       ∙ ap (λ t. peeledBytes t (pv .0)) (i .1 .1)
-      ∙ array-other (i .0) (pv .0) (λ q. f (value-kind dv v (pv .0) (pv .1 .0) b (pv .1 .1) ∙ q))
+      ∙ array-other (i .0) (pv .0) (λ q. f (sym (value-kind dv v b (pv .0) (pv .1 .0) (pv .1 .1)) ∙ q))
 
   module _ (ev : getD v 0 0 ≡ 8) (n : ℕ) (hn : n ≡ numberAt v 1 2) where
     pub array-others : Reads (readMany (readValue (dv - 1)) n (drop 3 v))

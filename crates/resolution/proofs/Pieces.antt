@@ -1,31 +1,29 @@
 -- Results that are written piece by piece: what is written so far, what is to follow, and loops over what a part holds.
-use Prim.Native.Nat.{ℕ, zero, suc, _+_, _-_, _≤_, _<_, min}
+use Prim.Native.Nat.{ℕ, _+_, _-_, _≤_, _<_, min}
 use mathlib.Core.Path.{_≡_, refl, sym, ap, _∙_, subst}
 use mathlib.Core.List.{List, [], _∷_, _++_, append-assoc, append-nil}
-use mathlib.Core.Option.{Option, none, some}
+use mathlib.Core.Option.{none, some}
 use native.Mathlib.Omega.{arith}
-use lib.ListN.{length, getD, take, drop, length-drop}
+use lib.ListN.{length, take, drop, length-drop}
 use lib.Seq.{drop-drop}
 use Rattle.base.specs.Base.{Result, ok, no, after}
 use Rattle.text.specs.Read.{Read, _>>=_}
 use Rattle.text.specs.Measured.{Reads}
 use Rattle.frame.specs.Readers.{readMany}
 use Rattle.frame.specs.Checks.{Spans}
+use Rattle.frame.proofs.Reading.{reads-some}
+use Rattle.frame.proofs.Measuring.{spans-le, spans-rest}
+use Rattle.frame.proofs.Counting.{many-zero, Split, many-split}
 use Rattle.types.specs.Contract.{onRead, onBoth}
 use Rattle.buffer.specs.Built.{Built, Wrote}
 use Rattle.buffer.proofs.BuiltLaws.{tail-is, tail-back, length-tail-back, built-small, built-append}
 use Rattle.buffer.specs.declared.Answer.{Answer}
 use Rattle.buffer.specs.declared.Answer.the-variants.{Accepted, Refused}
-use Rattle.resolution.proofs.ReadParts.{mapRead, reads-some, reads-eq, reads-first, many-zero, Split, many-split, spans-le, spans-rest}
 
 -- ---- answers
 
 pub wrote-eq : (x y : Result (List ℕ)) (o : List ℕ) (r : Answer) → x ≡ y → Wrote y o r → Wrote x o r
 wrote-eq x y o r e w = subst (λ u. Wrote u o r) (sym e) w
-
-pub wrote-no : (x : Result (List ℕ)) (o : List ℕ) (e : ℕ) → x ≡ no e → Wrote x o (Refused e)
-unfolding Wrote
-wrote-no x o e q = subst (λ u. Wrote u o (Refused e)) (sym q) refl
 
 pub accepted-small : (x : Result (List ℕ)) (o : List ℕ) (m : ℕ) → Wrote x o (Accepted m) → m ≤ 65536
 unfolding Wrote

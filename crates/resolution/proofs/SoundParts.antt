@@ -1,40 +1,39 @@
 -- Sound parts of a schema frame, and whether their defaults are short: the children of a node, and the loops over the variants of a
 -- union and the fields of a record.
-use Prim.Native.Nat.{ℕ, zero, suc, _+_, _-_, _≤_, _<_}
+use Prim.Native.Nat.{ℕ, _+_, _-_, _≤_, _<_}
 use mathlib.Core.Path.{_≡_, refl, sym, ap, _∙_, subst}
 use mathlib.Core.List.{List, [], _∷_}
 use mathlib.Core.Option.{Option, none, some}
 use mathlib.Core.Bool.{Bool, true, false, _&&_, not}
 use native.Mathlib.Omega.{arith}
-use native.Mathlib.Numerals.{sub-one}
 use lib.Dec.{T, ltb, eqb, ltb→lt}
 use lib.ListN.{length, getD, drop, length-drop}
 use lib.Seq.{drop-drop}
 use lib.Ieee.Fits.{and-i, and-l, and-r}
 use Rattle.number.specs.Number.{numberAt}
 use Rattle.text.specs.Text.{Text}
-use Rattle.text.specs.Read.{Read, _>>=_, readNumber}
+use Rattle.text.specs.Read.{Read, _>>=_}
 use Rattle.text.specs.Measured.{Reads}
 use Rattle.frame.specs.Tree.{Value, Schema, Variants, variant, schemaKind}
-use Rattle.frame.specs.Readers.{readMany, readList}
-use Rattle.frame.specs.SchemaFrame.{fieldsOf, variantsOf, readField, readLead, readSchemaContent, readSchema}
+use Rattle.frame.specs.Readers.{readMany}
+use Rattle.frame.specs.SchemaFrame.{fieldsOf, variantsOf, readField, readSchema}
 use Rattle.frame.specs.Sound.{schemaSound, fieldsSound, variantsSound, kindsSound, positionsSound, countVariants, hasField, defaultAllowed}
 use Rattle.frame.specs.Checks.{Spans}
+use Rattle.frame.proofs.Reading.{mapRead, map-inv, reads-some}
+use Rattle.frame.proofs.Measuring.{spans-rest}
+use Rattle.frame.proofs.Counting.{First, many-first, many-none}
+use Rattle.frame.proofs.SchemaNodes.{schema-there, schema-kind}
+use Rattle.schema.specs.Parts.{fieldSound}
 use Rattle.avro.specs.Defaults.{defaultsShort, fieldDefaultsShort, variantDefaultsShort}
 use Rattle.resolution.specs.Contract.{Ready}
-use Rattle.resolution.specs.Shortness.{SoundRead, testRead, fieldSound, fieldShort}
-use Rattle.resolution.proofs.ReadParts.{mapRead, reads-some, bind-inv, map-inv, list-behind, schema-there, schema-array, schema-map, schema-fields, schema-kind, not-reads, many-zero, many-split, spans-rest}
+use Rattle.resolution.specs.Shortness.{SoundRead, testRead, fieldShort}
+use Rattle.resolution.proofs.ReadParts.{schema-array, schema-map, schema-fields}
+use Rattle.resolution.proofs.UnionReading.{union-parts}
 
 -- ---- what was read
 
 pub sound-reads : {A : Type 0} {test : A → Bool} {x : Read A} → SoundRead test x → Reads x
 sound-reads w = reads-some (w .tree) (w .rest) (w .reads)
-
-pub same-read : {A : Type 0} (x : Read A) (a b : A) (r u : List ℕ) → x ≡ some (a, r) → x ≡ some (b, u) → a ≡ b
-same-read {A} x a b r u e f =
-    let g : _≡_ {A = Read A} (some (a, r)) (some (b, u)) = sym e ∙ f in
-    let q : _≡_ {A = A × List ℕ} (a, r) (b, u) = cc in
-    ap (λ (y : A × List ℕ). y .0) q
 
 pub test-some : {A : Type 0} (test : A → Bool) (x : Read A) (a : A) (r : List ℕ) → x ≡ some (a, r) → testRead test x ≡ test a
 unfolding testRead
@@ -116,21 +115,6 @@ pub record Left {A : Type 0} (p : List ℕ → Read A) (sound short : List A →
   pub are-sound : T (sound items)
   pub are-short : whole ≡ short items
 
--- the first of those that are left
-pub record First {A : Type 0} (p : List ℕ → Read A) (left : ℕ) (t : List ℕ) (items : List A) (rest : List ℕ) : Type 0 where
-  pub item : A
-  pub tail : List ℕ
-  pub others : List A
-  pub reads : p t ≡ some (item, tail)
-  pub later : readMany p (left - 1) tail ≡ some (others, rest)
-  pub cons : items ≡ item ∷ others
-
-pub many-first : {A : Type 0} (p : List ℕ → Read A) (left : ℕ) (t : List ℕ) (items : List A) (rest : List ℕ) → readMany p left t ≡ some (items, rest) → 0 < left → First p left t items rest
-many-first p left t items rest e h =
-    let q = many-split p left t (reads-some items rest e) h in
-    let m = map-inv (λ xs. q .item ∷ xs) (readMany p (left - 1) (q .tail)) items rest (sym (q .joins) ∙ e) in
-    record { item = q .item; tail = q .tail; others = m .0; reads = q .first; later = m .1 .0; cons = m .1 .1 }
-
 -- how soundness and shortness of many go by those of one
 pub record Piecewise {A : Type 0} (sound short : List A → Bool) (one test : A → Bool) : Type 0 where
   pub none-short : short [] ≡ true
@@ -141,38 +125,38 @@ pub record Piecewise {A : Type 0} (sound short : List A → Bool) (one test : A 
 module _ {A : Type 0} {p : List ℕ → Read A} {sound short : List A → Bool} {one test : A → Bool} (by : Piecewise sound short one test) {whole : Bool} {s : List ℕ} {left at : ℕ} (w : Left p sound short whole s left at) where
   pub left-first : 0 < left → SoundRead one (p (drop at s))
   left-first h =
-      let f = many-first p left (drop at s) (w .items) (w .rest) (w .reads) h in
-      record { tree = f .item; rest = f .tail; reads = f .reads; sound = by .first-sound (f .item) (f .others) (subst (λ l. T (sound l)) (f .cons) (w .are-sound)) }
+      let f = many-first p left (drop at s) (w .items) (w .rest) h (w .reads) in
+      record { tree = f .item; rest = f .behind; reads = f .first; sound = by .first-sound (f .item) (f .others) (subst (λ l. T (sound l)) (f .cons) (w .are-sound)) }
 
   left-both : (b : Bool) → b ≡ testRead test (p (drop at s)) → (f : First p left (drop at s) (w .items) (w .rest)) → whole ≡ (b && short (f .others))
   left-both b e f =
       w .are-short ∙ ap short (f .cons) ∙ by .short-both (f .item) (f .others)
-      ∙ ap (λ x. x && short (f .others)) (sym (e ∙ test-some test _ (f .item) (f .tail) (f .reads)))
+      ∙ ap (λ x. x && short (f .others)) (sym (e ∙ test-some test _ (f .item) (f .behind) (f .first)))
 
   -- one that is not short
   pub left-long : 0 < left → (b : Bool) → b ≡ testRead test (p (drop at s)) → b ≡ false → false ≡ whole
   left-long h b e g =
-      let f = many-first p left (drop at s) (w .items) (w .rest) (w .reads) h in
+      let f = many-first p left (drop at s) (w .items) (w .rest) h (w .reads) in
       sym (left-both b e f ∙ ap (λ x. x && short (f .others)) g)
 
   -- one that is short, of m bytes
   pub left-short : 0 < left → (b : Bool) → b ≡ testRead test (p (drop at s)) → b ≡ true → (m : ℕ) → Spans (p (drop at s)) (drop at s) m → Left p sound short whole s (left - 1) (at + m)
   unfolding Spans
   left-short h b e g m v =
-      let f = many-first p left (drop at s) (w .items) (w .rest) (w .reads) h in
-      let t : f .tail ≡ drop (at + m) s = spans-rest _ _ m v (f .item) (f .tail) (f .reads) ∙ drop-drop m at s in
+      let f = many-first p left (drop at s) (w .items) (w .rest) h (w .reads) in
+      let t : f .behind ≡ drop (at + m) s = spans-rest _ _ m v (f .item) (f .behind) (f .first) ∙ drop-drop m at s in
       record {
         inside = omega (arith, w .inside, v .0, length-drop at s);
         items = f .others;
         rest = w .rest;
-        reads = ap (readMany p (left - 1)) (sym t) ∙ f .later;
+        reads = ap (readMany p (left - 1)) (sym t) ∙ f .reads;
         are-sound = by .others-sound (f .item) (f .others) (subst (λ l. T (sound l)) (f .cons) (w .are-sound));
         are-short = left-both b e f ∙ ap (λ x. x && short (f .others)) g;
       }
 
   pub left-end : left ≤ 0 → true ≡ whole
   left-end h =
-      let q : w .items ≡ [] = same-read _ (w .items) [] (w .rest) (drop at s) (w .reads) (many-zero p left (drop at s) h) in
+      let q : w .items ≡ [] = many-none p left (drop at s) (w .items) (w .rest) h (w .reads) .0 in
       sym (w .are-short ∙ ap short q ∙ by .none-short)
 
 -- ---- the fields of a record
@@ -187,7 +171,7 @@ abbrev pub FieldsLeft : ℕ → List ℕ → ℕ → ℕ → Type 0
 FieldsLeft d s left at = Left (readField (readSchema (d - 1))) allFieldsSound allFieldsShort (testRead defaultsShort (readSchema d s)) s left at
 
 pub by-fields : Piecewise allFieldsSound allFieldsShort fieldSound fieldShort
-unfolding schemaSound defaultsShort fieldsOf fieldSound fieldShort
+unfolding schemaSound defaultsShort fieldsOf fieldShort
 by-fields = record {
   none-short = refl;
   first-sound = λ f fs h.
@@ -217,34 +201,6 @@ module _ (d : ℕ) (s : List ℕ) (w : SoundRead schemaSound (readSchema d s)) (
       }
 
 -- ---- the variants of a union
-
-pub record Parts (d : ℕ) (s : List ℕ) (t : Schema) : Type 0 where
-  pub variants : List Schema
-  pub kinds : List (ℕ × ℕ)
-  pub named : List ℕ
-  pub tail : List ℕ
-  pub long : 3 ≤ length s
-  pub reads : readMany (readSchema (d - 1)) (numberAt s 1 2) (drop 3 s) ≡ some (variants, tail)
-  pub are : t ≡ Schema.Union (variantsOf variants) kinds named
-
-union-node : (d : ℕ) (s : List ℕ) → Reads (readSchema d s) → getD s 0 0 ≡ 10 → readSchema d s ≡ readSchemaContent (readSchema (d - 1)) 10 (drop 1 s)
-unfolding readSchema
-union-node zero s p e = absurd (not-reads none refl p)
-union-node (suc d) [] p e = absurd (not-reads none refl p)
-union-node (suc d) (x ∷ s) p e = rw (sub-one (suc d)) (ap (λ j. readSchemaContent (readSchema d) j s) e)
-
-union-content : (node : List ℕ → Read Schema) (s : List ℕ) → readSchemaContent node 10 s ≡ (readList node s >>= (λ v. readList readLead (v .1) >>= (λ k. mapRead (λ ns. Schema.Union (variantsOf (v .0)) (k .0) ns) (readList (readNumber 2) (k .1)))))
-unfolding readSchemaContent
-union-content node s = refl
-
-pub parts : (d : ℕ) (s : List ℕ) (t : Schema) (r : List ℕ) → readSchema d s ≡ some (t, r) → getD s 0 0 ≡ 10 → Parts d s t
-parts d s t r e k =
-    let node = readSchema (d - 1) in
-    let a = bind-inv (readList node (drop 1 s)) _ t r (sym (union-node d s (reads-some t r e) k ∙ union-content node (drop 1 s)) ∙ e) in
-    let b = bind-inv (readList readLead (a .1 .0)) _ t r (a .1 .1 .1) in
-    let c = map-inv (λ ns. Schema.Union (variantsOf (a .0)) (b .0) ns) (readList (readNumber 2) (b .1 .0)) t r (b .1 .1 .1) in
-    let l = list-behind node s (reads-some (a .0) (a .1 .0) (a .1 .1 .0)) in
-    record { variants = a .0; kinds = b .0; named = c .0; tail = a .1 .0; long = l .0; reads = sym (l .1) ∙ a .1 .1 .0; are = c .1 .1 }
 
 pub union-sound : (vs : Variants) (ks : List (ℕ × ℕ)) (ns : List ℕ) → T (schemaSound (Schema.Union vs ks ns)) → (0 < countVariants vs) × T (variantsSound vs)
 unfolding schemaSound
@@ -279,17 +235,17 @@ by-variants = record {
 
 module _ (d : ℕ) (s : List ℕ) (w : SoundRead schemaSound (readSchema d s)) (e : getD s 0 0 ≡ 10) where
   pub variants-long : 3 ≤ length s
-  variants-long = parts d s (w .tree) (w .rest) (w .reads) e .long
+  variants-long = union-parts d s (w .tree) (w .rest) (w .reads) e .long
 
   pub variants-start : (n : ℕ) → n ≡ numberAt s 1 2 → VariantsLeft d s n 3
   unfolding defaultsShort
   variants-start n q =
-      let p = parts d s (w .tree) (w .rest) (w .reads) e in
+      let p = union-parts d s (w .tree) (w .rest) (w .reads) e in
       record {
         inside = p .long;
         items = p .variants;
-        rest = p .tail;
-        reads = ap (λ k. readMany (readSchema (d - 1)) k (drop 3 s)) q ∙ p .reads;
-        are-sound = union-sound (variantsOf (p .variants)) (p .kinds) (p .named) (subst (λ t. T (schemaSound t)) (p .are) (w .sound)) .1;
-        are-short = test-some defaultsShort _ (w .tree) (w .rest) (w .reads) ∙ ap defaultsShort (p .are);
+        rest = p .behind;
+        reads = ap (λ k. readMany (readSchema (d - 1)) k (drop 3 s)) q ∙ p .reads-variants;
+        are-sound = union-sound (variantsOf (p .variants)) (p .kinds) (p .named) (subst (λ t. T (schemaSound t)) (p .is) (w .sound)) .1;
+        are-short = test-some defaultsShort _ (w .tree) (w .rest) (w .reads) ∙ ap defaultsShort (p .is);
       }

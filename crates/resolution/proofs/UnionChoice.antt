@@ -9,7 +9,7 @@ use lib.Dec.{T, leb, ltb, eqb, ltb→lt}
 use lib.ListN.{length, drop, getD}
 use lib.Ieee.Fits.{and-l, and-r}
 use borrow.Author.Tests.{eq-eqb, ne-eqb, lt-ltb, le-ltb, ltb-true, ltb-false, eqb-true}
-use Rattle.base.specs.Base.{if_then_else_, Result, ok, no, after, accepted}
+use Rattle.base.specs.Base.{if_then_else_, ok, no, after, accepted}
 use Rattle.number.specs.Number.{bytesOf}
 use Rattle.frame.specs.Kind
 use Rattle.frame.specs.Tree.{Value, Schema, Variants, kindOf, schemaKind}
@@ -21,7 +21,6 @@ use Rattle.types.specs.Contract.{encoded}
 use Rattle.buffer.specs.Built.{Built, Wrote}
 use Rattle.buffer.specs.declared.Answer.{Answer}
 use Rattle.buffer.specs.declared.Answer.the-variants.{Accepted, Refused}
-use Rattle.buffer.proofs.BuiltLaws.{built-small}
 use Rattle.avro.specs.Union.{Trial, noTrial, schema-to-base-schemakind, unnamedKind, namedKind, lookupKind, takeVariant, unnamedVariant, namedVariant, firstThatResolves, choose, find-schema-with-known-schemata, inUnion}
 use Rattle.avro.specs.Resolve.{resolve, trials}
 use Rattle.avro.specs.Defaults.{defaultsShort, variantDefaultsShort}
@@ -115,11 +114,6 @@ pub answer-refused : (x : Outcome) (o : List ℕ) (e : ℕ) → Wrote (encoded x
 unfolding Wrote encoded accepted
 answer-refused (ok v) o e w = absurd w
 answer-refused (no n) o e w = refl
-
-pub answer-small : (x : Result (List ℕ)) (o : List ℕ) (m : ℕ) → Wrote x o (Accepted m) → m ≤ 65536
-unfolding Wrote
-answer-small (ok b) o m w = built-small b o m w
-answer-small (no e) o m w = absurd w
 
 -- a variant's bytes behind its index
 outcome-index : (x : Outcome) (i : ℕ) (o o' : List ℕ) (m n : ℕ) → Wrote (encoded x) o (Accepted m) → ((c : List ℕ) → Built c o m → Built (10 ∷ bytesOf 4 i ++ c) o' n) → Wrote (encoded (after x (λ r. ok (Value.Union i r)))) o' (Accepted n)

@@ -17,6 +17,8 @@ use Rattle.frame.specs.ValueFrame.{readValue}
 use Rattle.frame.specs.SchemaFrame as frame
 use Rattle.frame.specs.SchemaFrame.{readSchema}
 use Rattle.frame.specs.Sound.{schemaSound, variantsSound, kindsSound, positionsSound, countVariants}
+use Rattle.frame.proofs.Reading.{reads-some}
+use Rattle.frame.proofs.ValueNodes.{value-kind}
 use Rattle.types.specs.Contract.{encoded, onBoth}
 use Rattle.buffer.specs.Built.{Built, Wrote}
 use Rattle.buffer.specs.declared.Answer.{Answer}
@@ -32,8 +34,7 @@ use Rattle.resolution.specs.declared.Tried.{Tried}
 use Rattle.resolution.specs.declared.Choice.{Choice}
 use Rattle.resolution.specs.declared.Wanted.{Wanted}
 use Rattle.resolution.specs.declared.Positions.{Positions}
-use Rattle.resolution.proofs.UnionReading.{Parts, union-parts, parts-variants, parts-kinds, parts-named, parts-length, parts-count, passed-start, passed-first, passed-item, passed-variants, reads-some, on-read, on-read-of, on-both, on-both-of}
-use Rattle.resolution.proofs.UnionKinds.{value-kind}
+use Rattle.resolution.proofs.UnionReading.{Parts, union-parts, parts-variants, parts-kinds, parts-named, parts-length, parts-count, passed-start, passed-first, passed-item, passed-variants, on-read, on-read-of, on-both, on-both-of}
 use Rattle.resolution.proofs.UnionTables.{sixth-on}
 use Rattle.resolution.proofs.UnionChoice.{trialOf, trial-nth, trials-length, sound-union, short-union, sound-nth, short-nth, position-below, lookup-below, answer-accepted, indexed, indexed-refused, indexed-accepted, indexed-not, take-accepted, take-untried, take-refused, first-none, first-at, named-none, named-at, named-missed, named-any, takes-by, tries-of, tried-again, tried-other, tried-for, chosen, peeled-chosen, chosen-table, chosen-named, chosen-first, table-first, named-first, neither-first, neither-named}
 
@@ -62,9 +63,6 @@ lookup-within ks n h (some k) i e = lookup-below n 0 ks k i h e
 module _ (ds : ℕ) (s : List ℕ) (q : Ready ds s) (ten : getD s 0 0 ≡ 10) where
   parts : Parts ds s (q .tree)
   parts = union-parts ds s (q .tree) (q .rest) (q .reads) ten
-
-  pub ready-reads : Reads (readSchema ds s)
-  ready-reads = reads-some _ (q .tree) (q .rest) (q .reads)
 
   pub ready-long : 3 ≤ length s
   ready-long = parts .long
@@ -120,7 +118,7 @@ module _ (ds : ℕ) (s : List ℕ) (q : Ready ds s) (ten : getD s 0 0 ≡ 10) wh
       }
 
   pub variant-reads : (i r : ℕ) → Passed ds s i r → i < countOf (q .tree) → Reads (readSchema (ds - 1) (drop r s))
-  variant-reads i r w h = let e = variant-read i r w h in reads-some _ (nth i) (e .0) (e .1)
+  variant-reads i r w h = let e = variant-read i r w h in reads-some (nth i) (e .0) (e .1)
 
   pub named-below : (j : ℕ) → j < length (namedTable (q .tree)) → getD (namedTable (q .tree)) j 0 < countOf (q .tree)
   named-below j h = position-below (countOf (q .tree)) (namedTable (q .tree)) j (sound .1 .1) h

@@ -1,24 +1,25 @@
 -- The kinds of values and schemas: those to look for in a union's tables, the base kind of a schema's part, and which position comes first.
 use Prim.Native.Nat.{ℕ, _-_, _≤_, _<_}
 use mathlib.Core.Path.{_≡_, refl, sym, ap, _∙_}
-use mathlib.Core.List.{List, _++_}
+use mathlib.Core.List.{List}
 use mathlib.Core.Option.{Option, none, some}
-use mathlib.Core.Bool.{Bool, true, false, _&&_, _||_}
+use mathlib.Core.Bool.{Bool, true, false, _||_}
 use native.Mathlib.Omega.{arith}
-use lib.Dec.{T, leb, eqb}
+use lib.Dec.{leb, eqb}
 use lib.ListN.{length, drop, getD, length-drop}
 use lib.Seq.{drop-drop, getD-drop}
-use borrow.Author.Tests.{leb-true, leb-false, le-leb, lt-leb, ne-eqb, eqb-true, eqb-false, lt-ltb, le-ltb}
+use borrow.Author.Tests.{leb-true, leb-false, le-leb, lt-leb, ne-eqb, eqb-false, lt-ltb, le-ltb}
 use Rattle.base.specs.Base.{if_then_else_}
-use Rattle.number.specs.Number.{allBytes, numberAt}
+use Rattle.number.specs.Number.{numberAt}
 use Rattle.number.proofs.Laws.{numberAt-one}
 use Rattle.text.specs.Read.{Read, _>>=_, readNumber}
-use Rattle.text.proofs.ReadLaws.{readNumber-some, readNumber-none}
-use Rattle.frame.specs.Tree.{Value, Schema, UuidForm, kindOf, schemaKind}
-use Rattle.frame.specs.Readers.{readFlag, readOption}
-use Rattle.frame.specs.ValueFrame.{readValue, encodeValue}
+use Rattle.text.proofs.ReadLaws.{readNumber-some}
+use Rattle.frame.specs.Tree.{Schema, UuidForm, schemaKind}
+use Rattle.frame.specs.Readers.{readOption}
 use Rattle.frame.specs.SchemaFrame.{readUuidForm, readSchemaContent, readSchema}
-use Rattle.frame.proofs.ReadBack.{value-exact}
+use Rattle.frame.proofs.Reading.{read-what, read-rest, not-both, bind-inv, map-inv, reads-some, reads-number, option-zero, option-one, option-long, option-is-one}
+use Rattle.frame.proofs.SchemaNodes.{schema-kind}
+use Rattle.schema.proofs.Leaves.{kind-past}
 use Rattle.avro.specs.Union.{schema-to-base-schemakind, unnamedKind, namedKind}
 use Rattle.resolution.specs.Contract.{wantedOf}
 use Rattle.resolution.specs.UnionContract.{Among, WasNamed, baseRead, mustBeTried, soonerOf}
@@ -27,7 +28,7 @@ use Rattle.resolution.specs.declared.Tried.{Tried}
 use Rattle.resolution.specs.declared.Choice.{Choice}
 use Rattle.resolution.specs.declared.Wanted.{Wanted}
 use Rattle.resolution.specs.declared.Positions.{Positions}
-use Rattle.resolution.proofs.UnionReading.{read-what, read-rest, not-both, bind-inv, schema-content}
+use Rattle.resolution.proofs.UnionReading.{schema-content}
 
 -- ---- kinds to look for
 
@@ -109,63 +110,6 @@ pub unnamed-past : (k : ℕ) → 25 < k → unnamedKind k ≡ some k
 unfolding unnamedKind
 unnamed-past k l = rw (ne-eqb k 14 (omega arith), ne-eqb k 15 (omega arith), ne-eqb k 16 (omega arith), ne-eqb k 17 (omega arith), le-leb 18 k (omega arith), lt-leb k 24 (omega arith), ne-eqb k 25 (omega arith), ne-eqb k 11 (omega arith), ne-eqb k 12 (omega arith), ne-eqb k 13 (omega arith))
 
--- ---- the kind of a value's part
-
-encoding-kind : (w : Value) (r : List ℕ) → getD (encodeValue w ++ r) 0 0 ≡ kindOf w
-unfolding encodeValue kindOf
-encoding-kind (Value.Scalar k n) r = refl
-encoding-kind (Value.Octets k b) r = refl
-encoding-kind (Value.Enum i t) r = refl
-encoding-kind (Value.Array vs) r = refl
-encoding-kind (Value.Map es) r = refl
-encoding-kind (Value.Record es) r = refl
-encoding-kind (Value.Union i v) r = refl
-
-pub value-kind : (d : ℕ) (s : List ℕ) → T (allBytes s) → (w : Value) (r : List ℕ) → readValue d s ≡ some (w, r) → kindOf w ≡ getD s 0 0
-value-kind d s bytes w r e = sym (ap (λ (x : List ℕ). getD x 0 0) ((rw e at (value-exact d s bytes)) .1) ∙ encoding-kind w r)
-
--- ---- the kind of a schema's part
-
-Kinded : ℕ → Read Schema → Type 0
-Kinded k x = (v : Schema) (r : List ℕ) → x ≡ some (v, r) → schemaKind v ≡ k
-
-module _ (k : ℕ) where
-  kinded-none : Kinded k none
-  unfolding Kinded
-  kinded-none v r e = absurd (not-both {x = none} refl e)
-
-  kinded-some : (v : Schema) (r : List ℕ) → schemaKind v ≡ k → Kinded k (some (v, r))
-  unfolding Kinded
-  kinded-some v r h w u e = ap schemaKind (sym (read-what e)) ∙ h
-
-  kinded-bind : {B : Type 0} (x : Read B) (f : B × List ℕ → Read Schema) → ((q : B × List ℕ) → Kinded k (f q)) → Kinded k (x >>= f)
-  unfolding _>>=_
-  kinded-bind none f h = kinded-none
-  kinded-bind (some q) f h = h q
-
-  kinded-if : (b : Bool) (x y : Read Schema) → (b ≡ true → Kinded k x) → Kinded k y → Kinded k (if b then x else y)
-  kinded-if true x y h g = h refl
-  kinded-if false x y h g = g
-
-content-kinded : (node : List ℕ → Read Schema) (k : ℕ) (s : List ℕ) → Kinded k (readSchemaContent node k s)
-unfolding readSchemaContent schemaKind
-content-kinded node k s =
-    kinded-if k (leb k 7 || (leb 16 k && leb k 24)) _ _ (λ e. kinded-some k (Schema.Plain k) s refl)
-    (kinded-if k (eqb k 8) _ _ (λ e. kinded-bind k _ _ (λ q. kinded-some k _ _ (sym (eqb-true k 8 e))))
-    (kinded-if k (eqb k 9) _ _ (λ e. kinded-bind k _ _ (λ q. kinded-some k _ _ (sym (eqb-true k 9 e))))
-    (kinded-if k (eqb k 10) _ _ (λ e. kinded-bind k _ _ (λ q. kinded-bind k _ _ (λ q. kinded-bind k _ _ (λ q. kinded-some k _ _ (sym (eqb-true k 10 e))))))
-    (kinded-if k (eqb k 11) _ _ (λ e. kinded-bind k _ _ (λ q. kinded-some k _ _ (sym (eqb-true k 11 e))))
-    (kinded-if k (eqb k 12) _ _ (λ e. kinded-bind k _ _ (λ q. kinded-bind k _ _ (λ q. kinded-some k _ _ (sym (eqb-true k 12 e)))))
-    (kinded-if k (eqb k 13) _ _ (λ e. kinded-bind k _ _ (λ q. kinded-some k _ _ (sym (eqb-true k 13 e))))
-    (kinded-if k (eqb k 14) _ _ (λ e. kinded-bind k _ _ (λ q. kinded-bind k _ _ (λ q. kinded-bind k _ _ (λ q. kinded-some k _ _ (sym (eqb-true k 14 e))))))
-    (kinded-if k (eqb k 15) _ _ (λ e. kinded-bind k _ _ (λ q. kinded-some k _ _ (sym (eqb-true k 15 e))))
-    (kinded-if k (eqb k 25) _ _ (λ e. kinded-bind k _ _ (λ q. kinded-some k _ _ (sym (eqb-true k 25 e))))
-    (kinded-none k))))))))))
-
-pub schema-kind : (d : ℕ) (s : List ℕ) (v : Schema) (r : List ℕ) → readSchema d s ≡ some (v, r) → schemaKind v ≡ getD s 0 0
-unfolding Kinded
-schema-kind d s v r e = content-kinded _ _ _ v r (schema-content d s v r e)
-
 -- ---- the base kind by the kind
 
 pub base-itself : (v : Schema) (k : ℕ) → schemaKind v ≡ k → k < 14 → schema-to-base-schemakind v ≡ k
@@ -214,49 +158,12 @@ base-long (Schema.Union vs ks ns) k e l h = absurd (omega arith)
 
 -- ---- a Decimal, a Uuid or a Duration by its bytes
 
-module _ (s : List ℕ) where
-  flag-got : 0 < length s → getD s 0 0 ≤ 1 → readFlag s ≡ some (getD s 0 0, drop 1 s)
-  unfolding readFlag _>>=_
-  flag-got h g = rw (readNumber-some 1 s h, numberAt-one s 0 h, le-leb _ _ g)
-
-  flag-other : 0 < length s → 1 < getD s 0 0 → readFlag s ≡ none
-  unfolding readFlag _>>=_
-  flag-other h g = rw (readNumber-some 1 s h, numberAt-one s 0 h, lt-leb _ _ g)
-
-  flag-empty : length s < 1 → readFlag s ≡ none
-  unfolding readFlag _>>=_
-  flag-empty h = rw (readNumber-none 1 s h)
-
-  option-empty : length s < 1 → readOption (readNumber 2) s ≡ none
-  unfolding readOption _>>=_
-  option-empty h = rw (flag-empty h)
-
-  option-zero : 0 < length s → getD s 0 0 ≡ 0 → readOption (readNumber 2) s ≡ some (none, drop 1 s)
-  unfolding readOption _>>=_
-  option-zero h e = rw (flag-got h (omega arith), e)
-
-  option-one : 0 < length s → getD s 0 0 ≡ 1 → (o : Option ℕ) (r : List ℕ) → readOption (readNumber 2) s ≡ some (o, r) → (n : ℕ) × (o ≡ some n)
-  unfolding readOption
-  option-one h e o r g =
-      let a = bind-inv (readFlag s) _ (o, r) g in
-      let f : a .0 ≡ (1, drop 1 s) = let q : _≡_ {A = Read ℕ} (some (a .0)) (some (1, drop 1 s)) = sym (a .1 .0) ∙ flag-got h (omega arith) ∙ ap (λ n. some (n, drop 1 s)) e in cc in
-      let b = bind-inv (readNumber 2 (drop 1 s)) _ (o, r) (rw f at (a .1 .1)) in
-      (b .0 .0, sym (read-what (b .1 .1)))
-
-  option-other : 0 < length s → 1 < getD s 0 0 → readOption (readNumber 2) s ≡ none
-  unfolding readOption _>>=_
-  option-other h g = rw (flag-other h g)
-
 -- a reader that gives something has its bytes
 number-there : (n : ℕ) (s : List ℕ) (a : ℕ) (r : List ℕ) → readNumber n s ≡ some (a, r) → (n ≤ length s) × ((a ≡ numberAt s 0 n) × (r ≡ drop n s))
-number-there n s a r e = go (leb n (length s)) refl
-  where
-    go : (b : Bool) → leb n (length s) ≡ b → (n ≤ length s) × ((a ≡ numberAt s 0 n) × (r ≡ drop n s))
-    go true g =
-        let h : n ≤ length s = leb-true n (length s) g in
-        let q : _≡_ {A = Read ℕ} (some (a, r)) (some (numberAt s 0 n, drop n s)) = sym e ∙ readNumber-some n s h in
-        (h, (read-what q, read-rest q))
-    go false g = absurd (not-both (readNumber-none n s (leb-false n (length s) g)) e)
+number-there n s a r e =
+    let h = reads-number n s (reads-some a r e) in
+    let q : _≡_ {A = Read ℕ} (some (a, r)) (some (numberAt s 0 n, drop n s)) = sym e ∙ readNumber-some n s h in
+    (h, (read-what q, read-rest q))
 
 -- what a Decimal's content is made of
 record DecimalParts (s : List ℕ) (t : Schema) : Type 0 where
@@ -300,10 +207,6 @@ module _ (node : List ℕ → Read Schema) (s : List ℕ) (t : Schema) (r : List
   duration-form e =
       let a = bind-inv (readNumber 2 s) _ (t, r) e in
       (a .0 .0, sym (read-what (a .1 .1)))
-
-kind-past : (node : List ℕ → Read Schema) (s : List ℕ) (k : ℕ) → 25 < k → readSchemaContent node k s ≡ none
-unfolding readSchemaContent
-kind-past node s k h = rw (lt-leb k 7 (omega arith), le-leb 16 k (omega arith), lt-leb k 24 (omega arith), ne-eqb k 8 (omega arith), ne-eqb k 9 (omega arith), ne-eqb k 10 (omega arith), ne-eqb k 11 (omega arith), ne-eqb k 12 (omega arith), ne-eqb k 13 (omega arith), ne-eqb k 14 (omega arith), ne-eqb k 15 (omega arith), ne-eqb k 25 (omega arith))
 
 -- the first byte of a form
 form-there : (s : List ℕ) (f : UuidForm) (u : List ℕ) → readUuidForm s ≡ some (f, u) → 0 < length s
@@ -386,31 +289,26 @@ module _ (d : ℕ) (s : List ℕ) (t : Schema) (r : List ℕ) (e : readSchema d 
     ninth : getD (drop 8 (drop 1 s)) 0 0 ≡ getD s 9 0
     ninth = getD-drop 8 (drop 1 s) 0 0 ∙ getD-drop 1 s 8 0
 
-    decimal-there : (b : Bool) → leb 1 (length (drop 8 (drop 1 s))) ≡ b → 0 < length (drop 8 (drop 1 s))
-    decimal-there true g = omega (arith, leb-true 1 (length (drop 8 (drop 1 s))) g)
-    decimal-there false g = absurd (not-both (option-empty (drop 8 (drop 1 s)) (leb-false 1 (length (drop 8 (drop 1 s))) g)) (decimal .reads))
+    decimal-there : 0 < length (drop 8 (drop 1 s))
+    decimal-there = option-long (readNumber 2) (drop 8 (drop 1 s)) (reads-some (decimal .size) (decimal .rest) (decimal .reads))
 
     pub decimal-long : 9 < length s
-    decimal-long = omega (arith, decimal-there (leb 1 (length (drop 8 (drop 1 s)))) refl, length-drop 8 (drop 1 s), length-drop 1 s)
+    decimal-long = omega (arith, decimal-there, length-drop 8 (drop 1 s), length-drop 1 s)
 
     pub decimal-bytes : getD s 9 0 ≡ 0 → 6 ≡ baseRead (readSchema d s)
     unfolding schema-to-base-schemakind
     decimal-bytes z =
         let q = decimal in
-        let o : q .size ≡ none = read-what (sym (q .reads) ∙ option-zero (drop 8 (drop 1 s)) (decimal-there (leb 1 (length (drop 8 (drop 1 s)))) refl) (ninth ∙ z)) in
+        let o : q .size ≡ none = read-what (sym (q .reads) ∙ option-zero (readNumber 2) (drop 8 (drop 1 s)) decimal-there (ninth ∙ z)) in
         base-is 6 (ap schema-to-base-schemakind (q .is ∙ ap (Schema.Decimal (q .precision) (q .scale)) o))
 
     pub decimal-fixed : (getD s 9 0 ≡ 0 → ⊥) → 13 ≡ baseRead (readSchema d s)
     unfolding schema-to-base-schemakind
-    decimal-fixed z = go (leb (getD s 9 0) 1) refl
-      where
-        go : (b : Bool) → leb (getD s 9 0) 1 ≡ b → 13 ≡ baseRead (readSchema d s)
-        go true g =
-            let q = decimal in
-            let one : getD s 9 0 ≡ 1 = omega (arith, leb-true (getD s 9 0) 1 g) in
-            let o = option-one (drop 8 (drop 1 s)) (decimal-there (leb 1 (length (drop 8 (drop 1 s)))) refl) (ninth ∙ one) (q .size) (q .rest) (q .reads) in
-            base-is 13 (ap schema-to-base-schemakind (q .is ∙ ap (Schema.Decimal (q .precision) (q .scale)) (o .1)))
-        go false g = absurd (not-both (option-other (drop 8 (drop 1 s)) (decimal-there (leb 1 (length (drop 8 (drop 1 s)))) refl) (omega (arith, ninth, leb-false (getD s 9 0) 1 g))) (decimal .reads))
+    decimal-fixed z =
+        let q = decimal in
+        let one = option-is-one (readNumber 2) (drop 8 (drop 1 s)) (reads-some (q .size) (q .rest) (q .reads)) (λ e. z (sym ninth ∙ e)) in
+        let o = map-inv some (readNumber 2 (drop 1 (drop 8 (drop 1 s)))) (q .size) (q .rest) (sym (option-one (readNumber 2) (drop 8 (drop 1 s)) decimal-there one) ∙ q .reads) in
+        base-is 13 (ap schema-to-base-schemakind (q .is ∙ ap (Schema.Decimal (q .precision) (q .scale)) (o .1 .1)))
 
   module _ (h : getD s 0 0 ≡ 15) where
     form : (f : UuidForm) × ((t ≡ Schema.Uuid f) × ((u : List ℕ) × (readUuidForm (drop 1 s) ≡ some (f, u))))

@@ -1,8 +1,8 @@
 -- A union's part: its variants one behind another, and its two tables.
 use Prim.Native.Nat.{ℕ, zero, suc, _+_, _-_, _*_, _≤_, _<_}
 use mathlib.Core.Path.{_≡_, refl, sym, ap, _∙_}
-use mathlib.Core.List.{List, [], _∷_}
-use mathlib.Core.Option.{Option, none, some}
+use mathlib.Core.List.{List, _∷_}
+use mathlib.Core.Option.{none, some}
 use mathlib.Core.Bool.{Bool, true, false}
 use native.Mathlib.Omega.{arith}
 use native.Mathlib.Nat.{mul-zero, mul-suc, add-zero}
@@ -12,53 +12,23 @@ use lib.ListN.{length, drop, getD, length-drop}
 use lib.Seq.{drop-drop, getD-drop}
 use borrow.Author.Tests.{leb-true, leb-false}
 use Rattle.number.specs.Number.{numberAt}
-use Rattle.number.proofs.Laws.{numberAt-one}
-use Rattle.text.specs.Read.{Read, _>>=_, readNumber}
+use Rattle.text.specs.Read.{Read, readNumber}
 use Rattle.text.specs.Measured.{Reads}
 use Rattle.text.proofs.ReadLaws.{readNumber-some, readNumber-none}
 use Rattle.frame.specs.Tree.{Schema}
 use Rattle.frame.specs.Readers.{readMany, readList}
-use Rattle.frame.specs.ValueFrame.{readValue}
 use Rattle.frame.specs.SchemaFrame as frame
 use Rattle.frame.specs.SchemaFrame.{readLead, readSchemaContent, readSchema}
 use Rattle.frame.specs.Sound.{countVariants}
 use Rattle.frame.specs.Checks.{Spans}
+use Rattle.frame.proofs.Reading.{read-what, read-rest, not-both, bind-inv, reads-some}
+use Rattle.frame.proofs.Counting.{First, many-first, many-none, many-length, list-some}
+use Rattle.frame.proofs.SchemaNodes.{schema-there, schema-opened, count-variants}
+use Rattle.schema.proofs.Tables.{lead-short, lead-got}
 use Rattle.resolution.specs.Contract.{variantsOf, kindTable, namedTable}
 use Rattle.resolution.specs.UnionContract.{OnRead, OnBoth, Passed, Numbers, countOf}
 
 -- ---- what was read
-
-whatOf : {A : Type 0} → A → Read A → A
-whatOf a none = a
-whatOf a (some q) = q .0
-
-restOf : {A : Type 0} → List ℕ → Read A → List ℕ
-restOf r none = r
-restOf r (some q) = q .1
-
-pub read-what : {A : Type 0} {a b : A} {r u : List ℕ} → _≡_ {A = Read A} (some (a, r)) (some (b, u)) → a ≡ b
-unfolding whatOf
-read-what {A} {a} e = ap (whatOf a) e
-
-pub read-rest : {A : Type 0} {a b : A} {r u : List ℕ} → _≡_ {A = Read A} (some (a, r)) (some (b, u)) → r ≡ u
-unfolding restOf
-read-rest {A} {a} {b} {r} e = ap (restOf r) e
-
-pub not-both : {A : Type 0} {x : Read A} {q : A × List ℕ} → x ≡ none → x ≡ some q → ⊥
-not-both e g = let z : _≡_ {A = ℕ} 0 1 = cc in omega arith
-
-pub reads-some : {A : Type 0} (x : Read A) (a : A) (r : List ℕ) → x ≡ some (a, r) → Reads x
-unfolding Reads
-reads-some x a r e = (a, (r, e))
-
-pub spans-inside : {A : Type 0} (x : Read A) (s : List ℕ) (n : ℕ) → Spans x s n → n ≤ length s
-unfolding Spans
-spans-inside x s n w = w .0
-
-pub bind-inv : {A B : Type 0} (x : Option A) (f : A → Option B) (b : B) → x >>= f ≡ some b → (a : A) × ((x ≡ some a) × (f a ≡ some b))
-unfolding _>>=_
-bind-inv none f b e = let z : _≡_ {A = ℕ} 0 1 = cc in absurd (omega arith)
-bind-inv (some a) f b e = (a, (refl, e))
 
 pub on-read : {A : Type 0} (P : A → Type 0) (x : Read A) (a : A) (r : List ℕ) → x ≡ some (a, r) → OnRead P x → P a
 unfolding OnRead
@@ -76,56 +46,8 @@ pub on-both-of : {A B : Type 0} (P : A → B → Type 0) (x : Read A) (y : Read 
 unfolding OnBoth
 on-both-of P x y a r b u e f h = rw (e, f) h
 
--- ---- things one behind another
+-- ---- things of w bytes each
 
-abbrev onto : {A B : Type 0} → (A → B) → Read A → Read B
-onto {A} {B} f x = _>>=_ {A = A × List ℕ} {B = B × List ℕ} x (λ q. some (f (q .0), q .1))
-
-many-suc : {A : Type 0} (p : List ℕ → Read A) (k : ℕ) (s : List ℕ) → 0 < k → readMany p k s ≡ p s >>= (λ q. onto (λ l. q .0 ∷ l) (readMany p (k - 1) (q .1)))
-unfolding readMany
-many-suc p zero s h = absurd (omega arith)
-many-suc p (suc k) s h = rw (sub-one (suc k))
-
--- the first of those that are left
-pub record First {A : Type 0} (p : List ℕ → Read A) (left : ℕ) (t : List ℕ) (xs : List A) (after : List ℕ) : Type 0 where
-  pub item : A
-  pub behind : List ℕ
-  pub first : p t ≡ some (item, behind)
-  pub others : List A
-  pub reads : readMany p (left - 1) behind ≡ some (others, after)
-  pub cons : xs ≡ item ∷ others
-
-pub many-first : {A : Type 0} (p : List ℕ → Read A) (left : ℕ) (t : List ℕ) (xs : List A) (after : List ℕ) → 0 < left → readMany p left t ≡ some (xs, after) → First p left t xs after
-many-first p left t xs after h e =
-    let w = bind-inv (p t) _ (xs, after) (sym (many-suc p left t h) ∙ e) in
-    let v = bind-inv (readMany p (left - 1) (w .0 .1)) _ (xs, after) (w .1 .1) in
-    record { item = w .0 .0; behind = w .0 .1; first = w .1 .0; others = v .0 .0; reads = v .1 .0 ∙ ap (λ u. some (v .0 .0, u)) (read-rest (v .1 .1)); cons = sym (read-what (v .1 .1)) }
-
-pub many-none : {A : Type 0} (p : List ℕ → Read A) (left : ℕ) (t : List ℕ) (xs : List A) (after : List ℕ) → left ≡ 0 → readMany p left t ≡ some (xs, after) → (xs ≡ []) × (t ≡ after)
-unfolding readMany
-many-none p left t xs after h e =
-    let g = sym (ap (λ k. readMany p k t) h) ∙ e in (sym (read-what g), read-rest g)
-
-pub many-length : {A : Type 0} (p : List ℕ → Read A) (n : ℕ) (s : List ℕ) (xs : List A) (r : List ℕ) → readMany p n s ≡ some (xs, r) → length xs ≡ n
-many-length p zero s xs r e = ap length (many-none p zero s xs r refl e .0)
-many-length p (suc n) s xs r e =
-    let q = many-first p (suc n) s xs r (omega arith) e in
-    let g : readMany p n (q .behind) ≡ some (q .others, r) = ap (λ k. readMany p k (q .behind)) (sym (sub-one (suc n))) ∙ q .reads in
-    ap length (q .cons) ∙ ap suc (many-length p n (q .behind) (q .others) r g)
-
--- a count and that many things
-pub list-some : {A : Type 0} (p : List ℕ → Read A) (s : List ℕ) (xs : List A) (r : List ℕ) → readList p s ≡ some (xs, r)
-    → (2 ≤ length s) × (readMany p (numberAt s 0 2) (drop 2 s) ≡ some (xs, r))
-unfolding readList _>>=_
-list-some p s xs r e = go (leb 2 (length s)) refl
-  where
-    go : (b : Bool) → leb 2 (length s) ≡ b → (2 ≤ length s) × (readMany p (numberAt s 0 2) (drop 2 s) ≡ some (xs, r))
-    go true g = let h : 2 ≤ length s = leb-true 2 (length s) g in (h, rw (readNumber-some 2 s h) at e)
-    go false g =
-        let h : readNumber 2 s ≡ none = readNumber-none 2 s (leb-false 2 (length s) g) in
-        let y : readList p s ≡ none = rw h in absurd (not-both y e)
-
--- things of w bytes each
 module _ {A : Type 0} (p : List ℕ → Read A) (w : ℕ) (f : List ℕ → A) (short : (s : List ℕ) → length s < w → p s ≡ none) (got : (s : List ℕ) → w ≤ length s → p s ≡ some (f s, drop w s)) where
   fixed-first : (s : List ℕ) (a : A) (r : List ℕ) → p s ≡ some (a, r) → (w ≤ length s) × ((a ≡ f s) × (r ≡ drop w s))
   fixed-first s a r e = go (leb w (length s)) refl
@@ -140,7 +62,7 @@ module _ {A : Type 0} (p : List ℕ → Read A) (w : ℕ) (f : List ℕ → A) (
   pub fixed-many : (n : ℕ) (s : List ℕ) (xs : List A) (t : List ℕ) → readMany p n s ≡ some (xs, t)
       → (w * n ≤ length s) × ((t ≡ drop (w * n) s) × ((z : A) (j : ℕ) → j < n → getD xs j z ≡ f (drop (w * j) s)))
   fixed-many zero s xs t e =
-      (rw mul-zero (omega arith), (sym (many-none p zero s xs t refl e .1) ∙ ap (λ k. drop k s) (sym (mul-zero w)), λ z j h. absurd (omega arith)))
+      (rw mul-zero (omega arith), (sym (many-none p zero s xs t (omega arith) e .1) ∙ ap (λ k. drop k s) (sym (mul-zero w)), λ z j h. absurd (omega arith)))
   fixed-many (suc n) s xs t e =
       let q = many-first p (suc n) s xs t (omega arith) e in
       let u = fixed-first s (q .item) (q .behind) (q .first) in
@@ -161,30 +83,22 @@ module _ {A : Type 0} (p : List ℕ → Read A) (w : ℕ) (f : List ℕ → A) (
           h z j (omega arith) ∙ ap f (drop-drop (w * j) w s ∙ ap (λ k. drop k s) m)
 
 -- a kind byte and a position
-lead-short : (s : List ℕ) → length s < 3 → readLead s ≡ none
-unfolding readLead _>>=_
-lead-short s h = go (leb 1 (length s)) refl
-  where
-    go : (b : Bool) → leb 1 (length s) ≡ b → readLead s ≡ none
-    go true e = rw (readNumber-some 1 s (leb-true 1 (length s) e), readNumber-none 2 (drop 1 s) (omega (arith, length-drop 1 s, leb-true 1 (length s) e)))
-    go false e = rw (readNumber-none 1 s (leb-false 1 (length s) e))
-
 unfoldable pub leadAt : List ℕ → ℕ × ℕ
 leadAt s = (getD s 0 0, numberAt s 1 2)
 
-lead-got : (s : List ℕ) → 3 ≤ length s → readLead s ≡ some (leadAt s, drop 3 s)
-unfolding readLead _>>=_ leadAt
-lead-got s h = rw (readNumber-some 1 s (omega arith), readNumber-some 2 (drop 1 s) (omega (arith, length-drop 1 s)), numberAt-one s 0 (omega arith), drop-drop 2 1 s)
+lead-at : (s : List ℕ) → 3 ≤ length s → readLead s ≡ some (leadAt s, drop 3 s)
+unfolding leadAt
+lead-at s h = lead-got s h
 
 pub lead-first : (s : List ℕ) (a : ℕ × ℕ) (r : List ℕ) → readLead s ≡ some (a, r) → (3 ≤ length s) × ((a ≡ leadAt s) × (r ≡ drop 3 s))
-lead-first s a r e = fixed-first readLead 3 leadAt lead-short lead-got s a r e
+lead-first s a r e = fixed-first readLead 3 leadAt lead-short lead-at s a r e
 
 abbrev firstTwo : List ℕ → ℕ
 firstTwo s = numberAt s 0 2
 
 pub leads-many : (n : ℕ) (s : List ℕ) (xs : List (ℕ × ℕ)) (t : List ℕ) → readMany readLead n s ≡ some (xs, t)
     → (3 * n ≤ length s) × ((t ≡ drop (3 * n) s) × ((z : ℕ × ℕ) (j : ℕ) → j < n → getD xs j z ≡ leadAt (drop (3 * j) s)))
-leads-many n s xs t e = fixed-many readLead 3 leadAt lead-short lead-got n s xs t e
+leads-many n s xs t e = fixed-many readLead 3 leadAt lead-short lead-at n s xs t e
 
 pub numbers-many : (n : ℕ) (s : List ℕ) (xs : List ℕ) (t : List ℕ) → readMany (readNumber 2) n s ≡ some (xs, t)
     → (2 * n ≤ length s) × ((t ≡ drop (2 * n) s) × ((z : ℕ) (j : ℕ) → j < n → getD xs j z ≡ numberAt (drop (2 * j) s) 0 2))
@@ -192,52 +106,8 @@ numbers-many n s xs t e = fixed-many (readNumber 2) 2 firstTwo (λ u h. readNumb
 
 -- ---- a union's parts
 
-node-deep : (d : ℕ) (s : List ℕ) → d ≡ 0 → readSchema d s ≡ none
-unfolding readSchema
-node-deep zero s e = refl
-node-deep (suc d) s e = absurd (omega arith)
-
-node-empty : (d : ℕ) (s : List ℕ) → length s ≡ 0 → readSchema d s ≡ none
-unfolding readSchema
-node-empty zero s e = refl
-node-empty (suc d) [] e = refl
-node-empty (suc d) (x ∷ s) e = absurd (omega arith)
-
-node-open : (d : ℕ) (s : List ℕ) → (d ≡ 0 → ⊥) → (length s ≡ 0 → ⊥) → readSchema d s ≡ readSchemaContent (readSchema (d - 1)) (getD s 0 0) (drop 1 s)
-unfolding readSchema
-node-open zero s f g = absurd (f refl)
-node-open (suc d) [] f g = absurd (g refl)
-node-open (suc d) (x ∷ s) f g = rw (sub-one (suc d))
-
-value-empty : (d : ℕ) (s : List ℕ) → length s < 1 → readValue d s ≡ none
-unfolding readValue
-value-empty zero s h = refl
-value-empty (suc d) [] h = refl
-value-empty (suc d) (x ∷ s) h = absurd (omega arith)
-
-pub value-there : (d : ℕ) (s : List ℕ) → Reads (readValue d s) → 0 < length s
-unfolding Reads
-value-there d s p = go (leb 1 (length s)) refl
-  where
-    go : (b : Bool) → leb 1 (length s) ≡ b → 0 < length s
-    go true g = omega (arith, leb-true 1 (length s) g)
-    go false g = absurd (not-both (value-empty d s (leb-false 1 (length s) g)) (p .1 .1))
-
-pub schema-there : (d : ℕ) (s : List ℕ) (t : Schema) (r : List ℕ) → readSchema d s ≡ some (t, r) → (0 < d) × (0 < length s)
-schema-there d s t r e = (deep (leb 1 d) refl, long (leb 1 (length s)) refl)
-  where
-    deep : (b : Bool) → leb 1 d ≡ b → 0 < d
-    deep true g = omega (arith, leb-true 1 d g)
-    deep false g = absurd (not-both (node-deep d s (omega (arith, leb-false 1 d g))) e)
-
-    long : (b : Bool) → leb 1 (length s) ≡ b → 0 < length s
-    long true g = omega (arith, leb-true 1 (length s) g)
-    long false g = absurd (not-both (node-empty d s (omega (arith, leb-false 1 (length s) g))) e)
-
 pub schema-content : (d : ℕ) (s : List ℕ) (t : Schema) (r : List ℕ) → readSchema d s ≡ some (t, r) → readSchemaContent (readSchema (d - 1)) (getD s 0 0) (drop 1 s) ≡ some (t, r)
-schema-content d s t r e =
-    let h = schema-there d s t r e in
-    sym (node-open d s (λ z. omega (arith, h .0)) (λ z. omega (arith, h .1))) ∙ e
+schema-content d s t r e = sym (schema-opened d s (reads-some t r e) _ refl) ∙ e
 
 pub record Parts (depth : ℕ) (s : List ℕ) (t : Schema) : Type 0 where
   pub variants : List Schema
@@ -270,16 +140,11 @@ union-parts d s t r e k =
       rest = n .0 .1;
       is = sym (read-what (n .1 .1));
       long = omega (arith, v .0, length-drop 1 s);
-      deep = schema-there d s t r e .0;
+      deep = schema-there d s (reads-some t r e) .0;
       reads-variants = ap (readMany (readSchema (d - 1)) (numberAt s 1 2)) (sym (drop-drop 2 1 s)) ∙ v .1;
       reads-kinds = b .1 .0;
       reads-named = n .1 .0;
     }
-
-variants-count : (vs : List Schema) → countVariants (frame.variantsOf vs) ≡ length vs
-unfolding countVariants frame.variantsOf
-variants-count [] = refl
-variants-count (v ∷ vs) = ap suc (variants-count vs)
 
 module _ (d : ℕ) (s : List ℕ) (t : Schema) (p : Parts d s t) where
   pub parts-variants : variantsOf t ≡ frame.variantsOf (p .variants)
@@ -298,7 +163,7 @@ module _ (d : ℕ) (s : List ℕ) (t : Schema) (p : Parts d s t) where
   parts-length = many-length (readSchema (d - 1)) (numberAt s 1 2) (drop 3 s) (p .variants) (p .behind) (p .reads-variants)
 
   pub parts-count : countOf t ≡ numberAt s 1 2
-  parts-count = ap countVariants parts-variants ∙ variants-count (p .variants) ∙ parts-length
+  parts-count = ap countVariants parts-variants ∙ count-variants (p .variants) ∙ parts-length
 
   -- ---- the walk over the variants
 
@@ -322,7 +187,7 @@ module _ (d : ℕ) (s : List ℕ) (i r : ℕ) (w : Passed d s i r) (h : i < numb
   passed-item z = let q = passed-first in q .first ∙ ap (λ x. some (x, q .behind)) (sym (getD-first (w .variants) i z (q .item) (q .others) (q .cons)))
 
   pub passed-reads : Reads (readSchema (d - 1) (drop r s))
-  passed-reads = let q = passed-first in reads-some _ (q .item) (q .behind) (q .first)
+  passed-reads = let q = passed-first in reads-some (q .item) (q .behind) (q .first)
 
   pub passed-step : (m : ℕ) → Spans (readSchema (d - 1) (drop r s)) (drop r s) m → Passed d s (i + 1) (r + m)
   unfolding Spans

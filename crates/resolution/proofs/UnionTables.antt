@@ -15,13 +15,14 @@ use Rattle.number.proofs.Laws.{length-bytesOf, length-written}
 use Rattle.text.specs.Measured.{Reads}
 use Rattle.frame.specs.Readers.{readMany, readList}
 use Rattle.frame.specs.SchemaFrame.{readLead}
+use Rattle.frame.proofs.Counting.{First, many-first, many-none, list-some}
 use Rattle.buffer.specs.Built.{Built}
 use Rattle.buffer.proofs.BuiltLaws.{built-front, built-over, built-append}
 use Rattle.avro.specs.Union.{lookupKind}
 use Rattle.resolution.specs.Contract.{foundOf}
 use Rattle.resolution.specs.UnionContract.{lookupRead}
 use Rattle.find.specs.declared.Found.{Found}
-use Rattle.resolution.proofs.UnionReading.{First, many-first, many-none, list-some, lead-first, leadAt}
+use Rattle.resolution.proofs.UnionReading.{lead-first, leadAt}
 
 -- ---- the position that a kind table gives
 
@@ -32,10 +33,6 @@ pub record Looking (k : ℕ) (s : List ℕ) (left at : ℕ) : Type 0 where
   pub rest : List ℕ
   pub reads : readMany readLead left (drop at s) ≡ some (entries, rest)
   pub tells : lookupRead k (readList readLead s) ≡ lookupKind k entries
-
-pub table-count : (s : List ℕ) → Reads (readList readLead s) → 2 ≤ length s
-unfolding Reads
-table-count s p = list-some readLead s (p .0) (p .1 .0) (p .1 .1) .0
 
 pub looking-start : (k : ℕ) (s : List ℕ) (n : ℕ) → Reads (readList readLead s) → n ≡ numberAt s 0 2 → Looking k s n 2
 unfolding Reads lookupRead

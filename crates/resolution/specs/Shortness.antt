@@ -8,7 +8,6 @@ use lib.Dec.{T}
 use Rattle.text.specs.Text.{Text}
 use Rattle.text.specs.Read.{Read}
 use Rattle.frame.specs.Tree.{Value, Schema}
-use Rattle.frame.specs.Sound.{schemaSound, defaultAllowed}
 use Rattle.avro.specs.Defaults.{defaultsShort, shortDefault}
 
 -- something was read, and it is sound
@@ -22,10 +21,6 @@ pub record SoundRead {A : Type 0} (test : A → Bool) (x : Read A) : Type 0 wher
 unfoldable pub testRead : {A : Type 0} → (A → Bool) → Read A → Bool
 testRead test none = true
 testRead test (some x) = test (x .0)
-
--- a field by itself: its default is allowed and its schema sound
-unfoldable pub fieldSound : Text × Option Value × Schema → Bool
-fieldSound f = defaultAllowed (f .1) && schemaSound (f .2)
 
 -- a field by itself: its default is short, and so are those inside its schema
 unfoldable pub fieldShort : Text × Option Value × Schema → Bool

@@ -14,7 +14,8 @@ ghost use Rattle.avro.specs.Resolve.{startDefault};
 ghost use Rattle.avro.specs.Defaults.{defaultsShort, shortStart};
 ghost use Rattle.types.specs.Contract.{onBoth};
 ghost use Rattle.resolution.specs.Contract.{Ready};
-ghost use Rattle.resolution.specs.Shortness.{SoundRead, fieldShort, fieldSound, testRead};
+ghost use Rattle.schema.specs.Parts.{fieldSound};
+ghost use Rattle.resolution.specs.Shortness.{SoundRead, fieldShort, testRead};
 
 // Whether every default of the schema is short. `out` is scratch: what it holds afterwards is not said.
 pub fn defaults_short(s: &[u8], out: &mut [u8], ds: usize) -> bool

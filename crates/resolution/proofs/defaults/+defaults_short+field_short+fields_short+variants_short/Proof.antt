@@ -7,11 +7,11 @@ use Prim.Native.Nat.{ℕ, _+_, _*_, _<_}
 use mathlib.Core.Path.{_≡_, refl, _∙_}
 use lib.ListN.{length, length-drop}
 use Rattle.buffer.proofs.BuiltLaws.{tail-is}
-use Rattle.resolution.proofs.ReadParts.{spans-le}
 use Rattle.resolution.proofs.SoundParts.{sound-reads, sound-there, items-sound, items-short, values-sound, values-short, leaf-short, left-first, left-long, left-short, left-end, FieldsLeft, by-fields, fields-long, fields-start, VariantsLeft, by-variants, variants-long, variants-start}
 use Rattle.resolution.proofs.DefaultLaws.{inner-sound, inner-long, none-short, inner-ready, default-inside, default-sound, start-short}
 use borrow.Fn.Kinds.{In}
 use borrow.Fn.PlainCycle.{Measures, is, falls, and}
+use Rattle.frame.proofs.Measuring.{spans-le}
 use Rattle.resolution.proofs.defaults.defaults_short.Reads as defaults-short
 use Rattle.resolution.proofs.defaults.defaults_short.Kinds as defaults-short-kinds
 use Rattle.resolution.proofs.defaults.+defaults_short+field_short+fields_short+variants_short.Lts-defaults_short as defaults-short-lts

@@ -3,7 +3,8 @@ use borrow.Author.Needs.{needs}
 use native.Mathlib.Omega.{arith}
 use Rattle.buffer.proofs.BuiltLaws.{tail-is}
 use Rattle.resolution.proofs.SoundParts.{sound-reads}
-use Rattle.resolution.proofs.DefaultLaws.{ready-there, first-long, first-ready, alone-short, null-short, accepted-short, refused-short}
+use Rattle.resolution.proofs.DefaultBytes.{first-long, first-ready}
+use Rattle.resolution.proofs.DefaultLaws.{ready-there, alone-short, null-short, accepted-short, refused-short}
 use Rattle.resolution.proofs.defaults.start_short.Statement.{statement}
 use Rattle.resolution.proofs.defaults.start_short.Tie as tie
 

@@ -1,9 +1,10 @@
-use Rattle.resolution.proofs.ReadParts.{schema-there}
-use Rattle.resolution.proofs.LeafSchemas.{kind-below, plain-kind, ready-reads, bytes-outcome, string-outcome, enum-outcome, duration-outcome, plain-outcome}
+use Rattle.resolution.proofs.LeafSchemas.{kind-below, plain-kind, bytes-outcome, string-outcome, enum-outcome, duration-outcome, plain-outcome}
 use Rattle.resolution.proofs.Pieces.{wrote-eq}
 use borrow.Author.Needs.{needs}
+use Rattle.frame.proofs.SchemaNodes.{schema-there}
 use Rattle.resolution.proofs.leaf.resolve_leaf.Statement.{statement}
 use Rattle.resolution.proofs.leaf.resolve_leaf.Tie as tie
+use Rattle.resolution.proofs.ReadParts.{ready-reads}
 
 shared-slice-read-k : tie.Need-shared-slice-read-k
 shared-slice-read-k c = schema-there _ _ (ready-reads _ _ (c .before .before .before .before .pre .0)) .1

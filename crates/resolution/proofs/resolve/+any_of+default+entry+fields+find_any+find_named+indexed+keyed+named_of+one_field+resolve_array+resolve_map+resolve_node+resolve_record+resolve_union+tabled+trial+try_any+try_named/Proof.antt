@@ -1,33 +1,36 @@
 use borrow.Author.Needs.{needs}
 use native.Mathlib.Omega.{arith}
-use Prim.Native.Nat.{ℕ, suc, _+_, _-_, _*_, _≤_, _<_}
-use mathlib.Core.Path.{_≡_, refl, sym, ap, subst, _∙_}
+use Prim.Native.Nat.{ℕ, _+_, _-_, _*_, _≤_, _<_}
+use mathlib.Core.Path.{_≡_, refl, sym, _∙_}
 use mathlib.Core.Logic.{inl, inr}
-use lib.ListN.{length, take, drop, length-drop, getD, length-append}
+use lib.ListN.{length, take, drop, length-drop}
 use lib.Seq.{length-take-le}
 use borrow.Rule.Slice.PartMut.{same-len-mid}
-use mathlib.Core.List.{List, []}
 use Rattle.number.proofs.Laws.{getD-allBytes}
+use Rattle.types.proofs.NodeLaws.{wrote-no}
+use Rattle.value.proofs.SkipLaws.{entry-counted}
+use Rattle.schema.proofs.Checking.{name-reads}
 use Rattle.frame.specs.ValueFrame.{readValue, readEntry}
-use Rattle.frame.specs.SchemaFrame.{readSchema, readField}
+use Rattle.frame.specs.SchemaFrame.{readSchema}
+use Rattle.frame.proofs.Measuring.{spans-le}
+use Rattle.frame.proofs.ValueNodes.{value-there}
+use Rattle.frame.proofs.SchemaNodes.{schema-there}
 use Rattle.buffer.proofs.BuiltLaws.{tail-is, built-small}
 use Rattle.types.specs.Contract.{onBoth}
-use Rattle.resolution.specs.Contract.{nodeBytes, peeledBytes, entryBytes, fieldBytes, defaultBytes}
-use Rattle.resolution.proofs.ReadParts.{reads-some, value-there, schema-there, value-array, value-map, spans-le}
-use Rattle.resolution.proofs.Pieces.{wrote-eq, wrote-no, accepted-small, both-first, both-second, onFirst, onSecond, Loop, going-start, loop-first, loop-small, loop-end, loop-no, loop-add, loop-step, wrote-last, wrote-last-no}
-use Rattle.resolution.proofs.NodeBytes.{both-peel, peel-reads, ready-reads, ready-array, ready-map, array-no, array-others, array-start}
-use Rattle.resolution.proofs.ChildBytes.{map-no, map-others, map-start, fields-long, record-no, fields-others, fields-start}
+use Rattle.resolution.specs.Contract.{nodeBytes, peeledBytes, entryBytes}
+use Rattle.resolution.proofs.ReadParts.{value-array, value-map, ready-reads}
+use Rattle.resolution.proofs.Pieces.{wrote-eq, accepted-small, both-first, both-second, onFirst, Loop, going-start, loop-first, loop-small, loop-end, loop-no, loop-add, loop-step, wrote-last, wrote-last-no}
+use Rattle.resolution.proofs.NodeBytes.{both-peel, peel-reads, ready-array, ready-map, array-no, array-others, array-start}
+use Rattle.resolution.proofs.ChildBytes.{map-no, map-others, map-start, fields-long, record-no}
 use Rattle.find.specs.Find.{Keyed}
-use Rattle.resolution.proofs.FieldBytes.{entry-counted, entry-value, entry-whole, field-counted, ready-field-reads, field-schema, found-inside, found-value, field-found, field-none, default-inside, field-default, field-defaults}
+use Rattle.resolution.proofs.FieldBytes.{entry-value, entry-whole, ready-field-reads, field-schema, found-inside, found-value, field-found, field-none, default-inside, field-default, field-defaults}
 use Rattle.resolution.proofs.DefaultBytes.{default-value, default-plain, default-null, null-value, first-ready, first-long, made-value, default-made, default-refused}
 use borrow.Author.Tests.{not-true, not-false}
 use Rattle.resolution.proofs.FieldLoop.{FieldLoop, fields-begin, fields-ready, fields-step}
-use Rattle.number.specs.Number.{numberAt}
 use Rattle.text.specs.Measured.{Reads}
 use Rattle.resolution.specs.UnionContract.{OnBoth, Passed}
-use Rattle.resolution.proofs.UnionReading.{value-there as union-value-there, spans-inside, passed-step}
-use Rattle.resolution.proofs.UnionChoice.{answer-small}
-use Rattle.resolution.proofs.UnionCycle.{NoneBelow, NoneTaken, wrote-sixth, count-small, ready-reads as union-ready-reads, ready-long, ready-deep, ready-count, ready-below, below-ready, ready-start, variant-ready, variant-reads, tried-wrote, variant-accepted, variant-refused, kind-tried, try-other, try-one, naming-start, naming-end, naming-below, naming-step, naming-hit, naming-inside, naming-before, before-inside, try-before, again-table, again-inside, again-named, again-one, table-yet, union-yet, searching-start, searching-end, searching-step, searching-hit, stands-below, any-found, any-none, table-count, table-accepted, table-untried, table-named, table-any, table-other, named-wanted, named-unwanted, union-table, union-index, union-named, union-first}
+use Rattle.resolution.proofs.UnionReading.{passed-step}
+use Rattle.resolution.proofs.UnionCycle.{NoneBelow, NoneTaken, wrote-sixth, count-small, ready-long, ready-deep, ready-count, ready-below, below-ready, ready-start, variant-ready, variant-reads, variant-accepted, variant-refused, kind-tried, try-other, try-one, naming-start, naming-end, naming-below, naming-step, naming-hit, naming-inside, naming-before, before-inside, try-before, again-table, again-inside, again-named, again-one, table-yet, union-yet, searching-start, searching-end, searching-step, searching-hit, stands-below, any-found, any-none, table-count, table-accepted, table-untried, table-named, table-any, table-other, named-wanted, named-unwanted, union-table, union-index, union-named, union-first}
 use borrow.Fn.Kinds.{In}
 use borrow.Fn.PlainCycle.{Measures, is, falls, and}
 use Rattle.find.proofs.FindLaws.{keyed-length}
@@ -337,7 +340,7 @@ any-of-enum-known-i t c = search needs
 
 any-of-put-index-requires : (t : ℕ) → any-of-lts.Need-put-index-requires (find-any-below t, find-any.Post, put-index-reads.Asked, put-index-reads.Learnt) (any-of-at t) any-of.Post
 unfolding Reads
-any-of-put-index-requires t c κs = let h = stands-below (c .before .before .before .before .before .before .before .before .before .before .before .args .ds) (c .before .before .before .before .before .before .before .before .before .before .before .args .s .now) (c .before .before .before .before .before .before .before .before .before .before .before .pre .1 .0) (c .before .before .before .before .before .before .before .before .before .before .before .pre .1 .2) (c .before .before .before .before .before .before .before .before .before .before .before .args .dv) (c .before .before .before .before .before .before .before .before .before .before .before .args .v .now) (c .before .before .before .before .before .before .before .before .before .before .before .pre .1 .1 .0) (c .before .before .before .before .before .before .before .before .before .before .before .pre .1 .1 .1 .0) (c .before .before .before .before .before .before .before .before .before .before .before .pre .1 .1 .1 .1) _ _ _ _ (rw (c .before .before .i .given .1) at (c .before .before .before .before .before .before .find-any .ensures)) in (omega (arith, h .0, ready-count (c .before .before .before .before .before .before .before .before .before .before .before .args .ds) (c .before .before .before .before .before .before .before .before .before .before .before .args .s .now) (c .before .before .before .before .before .before .before .before .before .before .before .pre .1 .0) (c .before .before .before .before .before .before .before .before .before .before .before .pre .1 .2), count-small (c .before .before .before .before .before .before .before .before .before .before .before .args .s .now) (λ x. c .before .before .before .before .before .before .before .before .before .before .shared-slice-known .given x .fits) (ready-long (c .before .before .before .before .before .before .before .before .before .before .before .args .ds) (c .before .before .before .before .before .before .before .before .before .before .before .args .s .now) (c .before .before .before .before .before .before .before .before .before .before .before .pre .1 .0) (c .before .before .before .before .before .before .before .before .before .before .before .pre .1 .2))), answer-small _ _ _ (h .1))
+any-of-put-index-requires t c κs = let h = stands-below (c .before .before .before .before .before .before .before .before .before .before .before .args .ds) (c .before .before .before .before .before .before .before .before .before .before .before .args .s .now) (c .before .before .before .before .before .before .before .before .before .before .before .pre .1 .0) (c .before .before .before .before .before .before .before .before .before .before .before .pre .1 .2) (c .before .before .before .before .before .before .before .before .before .before .before .args .dv) (c .before .before .before .before .before .before .before .before .before .before .before .args .v .now) (c .before .before .before .before .before .before .before .before .before .before .before .pre .1 .1 .0) (c .before .before .before .before .before .before .before .before .before .before .before .pre .1 .1 .1 .0) (c .before .before .before .before .before .before .before .before .before .before .before .pre .1 .1 .1 .1) _ _ _ _ (rw (c .before .before .i .given .1) at (c .before .before .before .before .before .before .find-any .ensures)) in (omega (arith, h .0, ready-count (c .before .before .before .before .before .before .before .before .before .before .before .args .ds) (c .before .before .before .before .before .before .before .before .before .before .before .args .s .now) (c .before .before .before .before .before .before .before .before .before .before .before .pre .1 .0) (c .before .before .before .before .before .before .before .before .before .before .before .pre .1 .2), count-small (c .before .before .before .before .before .before .before .before .before .before .before .args .s .now) (λ x. c .before .before .before .before .before .before .before .before .before .before .shared-slice-known .given x .fits) (ready-long (c .before .before .before .before .before .before .before .before .before .before .before .args .ds) (c .before .before .before .before .before .before .before .before .before .before .before .args .s .now) (c .before .before .before .before .before .before .before .before .before .before .before .pre .1 .0) (c .before .before .before .before .before .before .before .before .before .before .before .pre .1 .2))), accepted-small _ _ _ (h .1))
 
 any-of-enum-told : (t : ℕ) → any-of-lts.Need-enum-told (find-any-below t, find-any.Post, put-index-reads.Asked, put-index-reads.Learnt) (any-of-at t) any-of.Post
 any-of-enum-told t c = search needs
@@ -587,7 +590,7 @@ find-any-cast-count t c = search needs
 
 find-any-named-at-requires : (t : ℕ) → find-any-lts.Need-named-at-requires (read2-reads.Asked, read2-reads.Learnt, named-at-reads.Asked, named-at-reads.Learnt, try-any-below t, try-any.Post, schema-len-reads.Asked, schema-len-reads.Learnt) (find-any-at t) find-any.Post find-any-Inv-loop find-any-μ-loop
 unfolding Reads
-find-any-named-at-requires t c κs = (union-ready-reads (c .before .before .before .before .args .ds) (c .before .before .before .before .args .s .now) (c .before .before .before .before .pre .1 .0) (c .before .before .before .before .pre .1 .2), c .before .before .before .before .pre .1 .2)
+find-any-named-at-requires t c κs = (ready-reads (c .before .before .before .before .args .ds) (c .before .before .before .before .args .s .now) (c .before .before .before .before .pre .1 .0), c .before .before .before .before .pre .1 .2)
 
 find-any-loop-holds : (t : ℕ) → find-any-lts.Need-loop-holds (read2-reads.Asked, read2-reads.Learnt, named-at-reads.Asked, named-at-reads.Learnt, try-any-below t, try-any.Post, schema-len-reads.Asked, schema-len-reads.Learnt) (find-any-at t) find-any.Post find-any-Inv-loop find-any-μ-loop
 unfolding Reads
@@ -621,7 +624,7 @@ unfolding Reads
 find-any-schema-len-requires t c κs = rw tail-is (variant-reads (c .before .before .before .before .before .before .before .before .before .before .before .before .before .before .args .ds) (c .before .before .before .before .before .before .before .before .before .before .before .before .before .before .args .s .now) (c .before .before .before .before .before .before .before .before .before .before .before .before .before .before .pre .1 .0) (c .before .before .before .before .before .before .before .before .before .before .before .before .before .before .pre .1 .2) (c .before .before .before .before .before .before .before .before .loop .i) (c .before .before .before .before .before .before .before .before .loop .from) (c .before .before .before .before .before .before .before .before .loop .inv .1 .0) (omega (arith, c .before .before .before .before .before .before .before .if1 .left, c .before .before .before .before .before .before .before .before .before .before .read2 .ensures, ready-count (c .before .before .before .before .before .before .before .before .before .before .before .before .before .before .args .ds) (c .before .before .before .before .before .before .before .before .before .before .before .before .before .before .args .s .now) (c .before .before .before .before .before .before .before .before .before .before .before .before .before .before .pre .1 .0) (c .before .before .before .before .before .before .before .before .before .before .before .before .before .before .pre .1 .2))))
 
 find-any-add-from : (t : ℕ) → find-any-lts.Need-add-from (read2-reads.Asked, read2-reads.Learnt, named-at-reads.Asked, named-at-reads.Learnt, try-any-below t, try-any.Post, schema-len-reads.Asked, schema-len-reads.Learnt) (find-any-at t) find-any.Post find-any-Inv-loop find-any-μ-loop
-find-any-add-from t c = omega (arith, spans-inside _ _ _ (rw tail-is at (c .schema-len .ensures)), length-drop (c .before .before .before .before .before .before .before .before .before .loop .from) (c .before .before .before .before .before .before .before .before .before .before .before .before .before .before .before .args .s .now), c .before .before .before .before .before .before .before .before .before .loop .inv .1 .0 .inside)
+find-any-add-from t c = omega (arith, spans-le _ _ _ (rw tail-is at (c .schema-len .ensures)), length-drop (c .before .before .before .before .before .before .before .before .before .loop .from) (c .before .before .before .before .before .before .before .before .before .before .before .before .before .before .before .args .s .now), c .before .before .before .before .before .before .before .before .before .loop .inv .1 .0 .inside)
 
 find-any-add-i : (t : ℕ) → find-any-lts.Need-add-i (read2-reads.Asked, read2-reads.Learnt, named-at-reads.Asked, named-at-reads.Learnt, try-any-below t, try-any.Post, schema-len-reads.Asked, schema-len-reads.Learnt) (find-any-at t) find-any.Post find-any-Inv-loop find-any-μ-loop
 find-any-add-i t c = omega (arith, c .before .before .before .before .before .before .before .before .if1 .left)
@@ -655,7 +658,7 @@ find-named-μ-loop s v out₀ ds dv k first count j₀ out j = count - j
 
 find-named-named-at-requires : (t : ℕ) → find-named-lts.Need-named-at-requires (named-at-reads.Asked, named-at-reads.Learnt, read2-reads.Asked, read2-reads.Learnt, try-named-below t, try-named.Post) (find-named-at t) find-named.Post find-named-Inv-loop find-named-μ-loop
 unfolding Reads
-find-named-named-at-requires t c κs = (union-ready-reads (c .before .before .before .args .ds) (c .before .before .before .args .s .now) (c .before .before .before .pre .1 .0) (c .before .before .before .pre .1 .2), c .before .before .before .pre .1 .2)
+find-named-named-at-requires t c κs = (ready-reads (c .before .before .before .args .ds) (c .before .before .before .args .s .now) (c .before .before .before .pre .1 .0), c .before .before .before .pre .1 .2)
 
 find-named-loop-holds : (t : ℕ) → find-named-lts.Need-loop-holds (named-at-reads.Asked, named-at-reads.Learnt, read2-reads.Asked, read2-reads.Learnt, try-named-below t, try-named.Post) (find-named-at t) find-named.Post find-named-Inv-loop find-named-μ-loop
 unfolding Reads
@@ -712,7 +715,7 @@ find-named-returns-2 t c = naming-hit (c .before .before .before .before .before
 
 indexed-variant-at-requires : (t : ℕ) → indexed-lts.Need-variant-at-requires (variant-at-reads.Asked, variant-at-reads.Learnt, trial-below t, trial.Post, put-index-reads.Asked, put-index-reads.Learnt) (indexed-at t) indexed.Post
 unfolding Reads
-indexed-variant-at-requires t c κs = (union-ready-reads (c .before .before .before .args .ds) (c .before .before .before .args .s .now) (c .before .before .before .pre .1 .0) (c .before .before .before .pre .1 .2), c .before .before .before .pre .1 .2, omega (arith, (ready-below (c .before .before .before .args .ds) (c .before .before .before .args .s .now) (c .before .before .before .pre .1 .0) (c .before .before .before .pre .1 .2) (c .before .before .before .args .i) (c .before .before .before .pre .1 .3)), ready-count (c .before .before .before .args .ds) (c .before .before .before .args .s .now) (c .before .before .before .pre .1 .0) (c .before .before .before .pre .1 .2)))
+indexed-variant-at-requires t c κs = (ready-reads (c .before .before .before .args .ds) (c .before .before .before .args .s .now) (c .before .before .before .pre .1 .0), c .before .before .before .pre .1 .2, omega (arith, (ready-below (c .before .before .before .args .ds) (c .before .before .before .args .s .now) (c .before .before .before .pre .1 .0) (c .before .before .before .pre .1 .2) (c .before .before .before .args .i) (c .before .before .before .pre .1 .3)), ready-count (c .before .before .before .args .ds) (c .before .before .before .args .s .now) (c .before .before .before .pre .1 .0) (c .before .before .before .pre .1 .2)))
 
 indexed-sub-trial : (t : ℕ) → indexed-lts.Need-sub-trial (variant-at-reads.Asked, variant-at-reads.Learnt, trial-below t, trial.Post, put-index-reads.Asked, put-index-reads.Learnt) (indexed-at t) indexed.Post
 indexed-sub-trial t c = c .variant-at .ensures .inside
@@ -736,7 +739,7 @@ indexed-enum-known-m t c = search needs
 
 indexed-put-index-requires : (t : ℕ) → indexed-lts.Need-put-index-requires (variant-at-reads.Asked, variant-at-reads.Learnt, trial-below t, trial.Post, put-index-reads.Asked, put-index-reads.Learnt) (indexed-at t) indexed.Post
 unfolding Reads
-indexed-put-index-requires t c κs = (omega (arith, (ready-below (c .before .before .before .before .before .before .before .before .before .before .before .before .before .args .ds) (c .before .before .before .before .before .before .before .before .before .before .before .before .before .args .s .now) (c .before .before .before .before .before .before .before .before .before .before .before .before .before .pre .1 .0) (c .before .before .before .before .before .before .before .before .before .before .before .before .before .pre .1 .2) (c .before .before .before .before .before .before .before .before .before .before .before .before .before .args .i) (c .before .before .before .before .before .before .before .before .before .before .before .before .before .pre .1 .3)), ready-count (c .before .before .before .before .before .before .before .before .before .before .before .before .before .args .ds) (c .before .before .before .before .before .before .before .before .before .before .before .before .before .args .s .now) (c .before .before .before .before .before .before .before .before .before .before .before .before .before .pre .1 .0) (c .before .before .before .before .before .before .before .before .before .before .before .before .before .pre .1 .2), count-small (c .before .before .before .before .before .before .before .before .before .before .before .before .before .args .s .now) (λ x. c .before .before .before .before .before .before .before .before .before .before .before .before .shared-slice-known .given x .fits) (ready-long (c .before .before .before .before .before .before .before .before .before .before .before .before .before .args .ds) (c .before .before .before .before .before .before .before .before .before .before .before .before .before .args .s .now) (c .before .before .before .before .before .before .before .before .before .before .before .before .before .pre .1 .0) (c .before .before .before .before .before .before .before .before .before .before .before .before .before .pre .1 .2))), answer-small _ _ _ (rw (c .before .before .m .given .1) at (c .before .before .before .before .before .before .trial .ensures)))
+indexed-put-index-requires t c κs = (omega (arith, (ready-below (c .before .before .before .before .before .before .before .before .before .before .before .before .before .args .ds) (c .before .before .before .before .before .before .before .before .before .before .before .before .before .args .s .now) (c .before .before .before .before .before .before .before .before .before .before .before .before .before .pre .1 .0) (c .before .before .before .before .before .before .before .before .before .before .before .before .before .pre .1 .2) (c .before .before .before .before .before .before .before .before .before .before .before .before .before .args .i) (c .before .before .before .before .before .before .before .before .before .before .before .before .before .pre .1 .3)), ready-count (c .before .before .before .before .before .before .before .before .before .before .before .before .before .args .ds) (c .before .before .before .before .before .before .before .before .before .before .before .before .before .args .s .now) (c .before .before .before .before .before .before .before .before .before .before .before .before .before .pre .1 .0) (c .before .before .before .before .before .before .before .before .before .before .before .before .before .pre .1 .2), count-small (c .before .before .before .before .before .before .before .before .before .before .before .before .before .args .s .now) (λ x. c .before .before .before .before .before .before .before .before .before .before .before .before .shared-slice-known .given x .fits) (ready-long (c .before .before .before .before .before .before .before .before .before .before .before .before .before .args .ds) (c .before .before .before .before .before .before .before .before .before .before .before .before .before .args .s .now) (c .before .before .before .before .before .before .before .before .before .before .before .before .before .pre .1 .0) (c .before .before .before .before .before .before .before .before .before .before .before .before .before .pre .1 .2))), accepted-small _ _ _ (rw (c .before .before .m .given .1) at (c .before .before .before .before .before .before .trial .ensures)))
 
 indexed-enum-known-e : (t : ℕ) → indexed-lts.Need-enum-known-e (variant-at-reads.Asked, variant-at-reads.Learnt, trial-below t, trial.Post, put-index-reads.Asked, put-index-reads.Learnt) (indexed-at t) indexed.Post
 indexed-enum-known-e t c = search needs
@@ -786,7 +789,7 @@ keyed-returns-2 : (t : ℕ) → keyed-lts.Need-returns-2 (read2-reads.Asked, rea
 keyed-returns-2 t c = c .before .before .fields2 .ensures
 
 named-of-shared-slice-read-named-kind : (t : ℕ) → named-of-lts.Need-shared-slice-read-named-kind (named-kind-reads.Asked, named-kind-reads.Learnt, find-named-below t, find-named.Post) (named-of-at t) named-of.Post
-named-of-shared-slice-read-named-kind t c = union-value-there (c .before .before .before .before .args .dv) (c .before .before .before .before .args .v .now) (c .before .before .before .before .pre .1 .1)
+named-of-shared-slice-read-named-kind t c = value-there (c .before .before .before .before .args .dv) (c .before .before .before .before .args .v .now) (c .before .before .before .before .pre .1 .1) .1
 
 named-of-named-kind-requires : (t : ℕ) → named-of-lts.Need-named-kind-requires (named-kind-reads.Asked, named-kind-reads.Learnt, find-named-below t, find-named.Post) (named-of-at t) named-of.Post
 named-of-named-kind-requires t c κs = search needs
@@ -812,7 +815,7 @@ unfolding Reads
 named-of-returns-2 t c = named-unwanted (c .before .before .before .before .before .before .before .args .ds) (c .before .before .before .before .before .before .before .args .s .now) (c .before .before .before .before .before .before .before .pre .1 .0) (c .before .before .before .before .before .before .before .pre .1 .2) (c .before .before .before .before .before .before .before .args .dv) (c .before .before .before .before .before .before .before .args .v .now) (c .before .before .before .before .before .before .before .pre .1 .1 .0) (c .before .before .before .before .before .before .before .pre .1 .1 .1 .0) (c .before .before .before .before .before .before .before .pre .1 .1 .1 .1) (λ x. c .before .before .before .before .before .shared-slice-known2 .given x .fits) (c .before .before .named-kind .result) _ (c .before .before .named-kind .ensures) (c .enum-told .given .1)
 
 one-field-content-requires : (t : ℕ) → one-field-lts.Need-content-requires (content-reads.Asked, content-reads.Learnt, put-reads.Asked, put-reads.Learnt, room-reads.Asked, room-reads.Learnt, field-at-reads.Asked, field-at-reads.Learnt, find-in-reads.Asked, find-in-reads.Learnt, resolve-node-below t, resolve-node.Post, joined-reads.Asked, joined-reads.Learnt, default-below t, default.Post) (one-field-at t) one-field.Post
-one-field-content-requires t c κs = field-counted _ _ (ready-field-reads _ _ (c .before .before .before .before .pre .1 .0))
+one-field-content-requires t c κs = name-reads _ _ (ready-field-reads _ _ (c .before .before .before .before .pre .1 .0))
 
 one-field-add-n : (t : ℕ) → one-field-lts.Need-add-n (content-reads.Asked, content-reads.Learnt, put-reads.Asked, put-reads.Learnt, room-reads.Asked, room-reads.Learnt, field-at-reads.Asked, field-at-reads.Learnt, find-in-reads.Asked, find-in-reads.Learnt, resolve-node-below t, resolve-node.Post, joined-reads.Asked, joined-reads.Learnt, default-below t, default.Post) (one-field-at t) one-field.Post
 one-field-add-n t c = omega (arith, c .content .ensures .1 .1)
@@ -1300,14 +1303,14 @@ resolve-union-named-of-requires : (t : ℕ) → resolve-union-lts.Need-named-of-
 resolve-union-named-of-requires t c κs = (omega (arith, c .before .before .before .before .pre .0), c .before .before .before .before .pre .1)
 
 resolve-union-shared-slice-read-unnamed-kind : (t : ℕ) → resolve-union-lts.Need-shared-slice-read-unnamed-kind (named-of-below t, named-of.Post, unnamed-kind-reads.Asked, unnamed-kind-reads.Learnt, table-position-reads.Asked, table-position-reads.Learnt, sooner-reads.Asked, sooner-reads.Learnt, tabled-below t, tabled.Post, put-index-reads.Asked, put-index-reads.Learnt, any-of-below t, any-of.Post) (resolve-union-at t) resolve-union.Post
-resolve-union-shared-slice-read-unnamed-kind t c = union-value-there (c .before .before .before .before .before .before .before .before .args .dv) (c .before .before .before .before .before .before .before .before .args .v .now) (c .before .before .before .before .before .before .before .before .pre .1 .1)
+resolve-union-shared-slice-read-unnamed-kind t c = value-there (c .before .before .before .before .before .before .before .before .args .dv) (c .before .before .before .before .before .before .before .before .args .v .now) (c .before .before .before .before .before .before .before .before .pre .1 .1) .1
 
 resolve-union-unnamed-kind-requires : (t : ℕ) → resolve-union-lts.Need-unnamed-kind-requires (named-of-below t, named-of.Post, unnamed-kind-reads.Asked, unnamed-kind-reads.Learnt, table-position-reads.Asked, table-position-reads.Learnt, sooner-reads.Asked, sooner-reads.Learnt, tabled-below t, tabled.Post, put-index-reads.Asked, put-index-reads.Learnt, any-of-below t, any-of.Post) (resolve-union-at t) resolve-union.Post
 resolve-union-unnamed-kind-requires t c κs = search needs
 
 resolve-union-table-position-requires : (t : ℕ) → resolve-union-lts.Need-table-position-requires (named-of-below t, named-of.Post, unnamed-kind-reads.Asked, unnamed-kind-reads.Learnt, table-position-reads.Asked, table-position-reads.Learnt, sooner-reads.Asked, sooner-reads.Learnt, tabled-below t, tabled.Post, put-index-reads.Asked, put-index-reads.Learnt, any-of-below t, any-of.Post) (resolve-union-at t) resolve-union.Post
 unfolding Reads
-resolve-union-table-position-requires t c κs = (union-ready-reads (c .before .before .before .before .before .before .before .before .before .args .ds) (c .before .before .before .before .before .before .before .before .before .args .s .now) (c .before .before .before .before .before .before .before .before .before .pre .1 .0) (c .before .before .before .before .before .before .before .before .before .pre .1 .2), c .before .before .before .before .before .before .before .before .before .pre .1 .2)
+resolve-union-table-position-requires t c κs = (ready-reads (c .before .before .before .before .before .before .before .before .before .args .ds) (c .before .before .before .before .before .before .before .before .before .args .s .now) (c .before .before .before .before .before .before .before .before .before .pre .1 .0), c .before .before .before .before .before .before .before .before .before .pre .1 .2)
 
 resolve-union-sooner-requires : (t : ℕ) → resolve-union-lts.Need-sooner-requires (named-of-below t, named-of.Post, unnamed-kind-reads.Asked, unnamed-kind-reads.Learnt, table-position-reads.Asked, table-position-reads.Learnt, sooner-reads.Asked, sooner-reads.Learnt, tabled-below t, tabled.Post, put-index-reads.Asked, put-index-reads.Learnt, any-of-below t, any-of.Post) (resolve-union-at t) resolve-union.Post
 resolve-union-sooner-requires t c κs = search needs
@@ -1324,7 +1327,7 @@ resolve-union-enum-known-i-2 t c = search needs
 
 resolve-union-put-index-requires : (t : ℕ) → resolve-union-lts.Need-put-index-requires (named-of-below t, named-of.Post, unnamed-kind-reads.Asked, unnamed-kind-reads.Learnt, table-position-reads.Asked, table-position-reads.Learnt, sooner-reads.Asked, sooner-reads.Learnt, tabled-below t, tabled.Post, put-index-reads.Asked, put-index-reads.Learnt, any-of-below t, any-of.Post) (resolve-union-at t) resolve-union.Post
 unfolding Reads
-resolve-union-put-index-requires t c κs = let h = union-index (c .before .before .before .before .before .before .before .before .before .before .before .before .before .before .before .args .ds) (c .before .before .before .before .before .before .before .before .before .before .before .before .before .before .before .args .s .now) (c .before .before .before .before .before .before .before .before .before .before .before .before .before .before .before .pre .1 .0) (c .before .before .before .before .before .before .before .before .before .before .before .before .before .before .before .pre .1 .2) (c .before .before .before .before .before .before .before .before .before .before .before .before .before .before .before .args .dv) (c .before .before .before .before .before .before .before .before .before .before .before .before .before .before .before .args .v .now) (c .before .before .before .before .before .before .before .before .before .before .before .before .before .before .before .pre .1 .1 .0) (c .before .before .before .before .before .before .before .before .before .before .before .before .before .before .before .pre .1 .1 .1 .0) (c .before .before .before .before .before .before .before .before .before .before .before .before .before .before .before .pre .1 .1 .1 .1) (λ x. c .before .before .before .before .before .before .before .before .before .before .before .before .before .shared-slice-known2 .given x .fits) (c .before .before .before .before .before .before .unnamed-kind .result) (c .before .before .before .before .before .before .unnamed-kind .ensures) (c .before .before .before .before .before .table-position .result) (c .before .before .before .before .before .table-position .ensures) (c .before .before .before .before .before .before .before .before .before .before .named-of .result) _ (c .before .before .before .before .before .before .before .before .before .before .named-of .ensures) _ _ (sym (c .before .before .before .before .sooner .ensures) ∙ c .before .before .i2 .given .1) in (omega (arith, h .0, ready-count (c .before .before .before .before .before .before .before .before .before .before .before .before .before .before .before .args .ds) (c .before .before .before .before .before .before .before .before .before .before .before .before .before .before .before .args .s .now) (c .before .before .before .before .before .before .before .before .before .before .before .before .before .before .before .pre .1 .0) (c .before .before .before .before .before .before .before .before .before .before .before .before .before .before .before .pre .1 .2), count-small (c .before .before .before .before .before .before .before .before .before .before .before .before .before .before .before .args .s .now) (λ x. c .before .before .before .before .before .before .before .before .before .before .before .before .before .before .shared-slice-known .given x .fits) (ready-long (c .before .before .before .before .before .before .before .before .before .before .before .before .before .before .before .args .ds) (c .before .before .before .before .before .before .before .before .before .before .before .before .before .before .before .args .s .now) (c .before .before .before .before .before .before .before .before .before .before .before .before .before .before .before .pre .1 .0) (c .before .before .before .before .before .before .before .before .before .before .before .before .before .before .before .pre .1 .2))), answer-small _ _ _ (h .1))
+resolve-union-put-index-requires t c κs = let h = union-index (c .before .before .before .before .before .before .before .before .before .before .before .before .before .before .before .args .ds) (c .before .before .before .before .before .before .before .before .before .before .before .before .before .before .before .args .s .now) (c .before .before .before .before .before .before .before .before .before .before .before .before .before .before .before .pre .1 .0) (c .before .before .before .before .before .before .before .before .before .before .before .before .before .before .before .pre .1 .2) (c .before .before .before .before .before .before .before .before .before .before .before .before .before .before .before .args .dv) (c .before .before .before .before .before .before .before .before .before .before .before .before .before .before .before .args .v .now) (c .before .before .before .before .before .before .before .before .before .before .before .before .before .before .before .pre .1 .1 .0) (c .before .before .before .before .before .before .before .before .before .before .before .before .before .before .before .pre .1 .1 .1 .0) (c .before .before .before .before .before .before .before .before .before .before .before .before .before .before .before .pre .1 .1 .1 .1) (λ x. c .before .before .before .before .before .before .before .before .before .before .before .before .before .shared-slice-known2 .given x .fits) (c .before .before .before .before .before .before .unnamed-kind .result) (c .before .before .before .before .before .before .unnamed-kind .ensures) (c .before .before .before .before .before .table-position .result) (c .before .before .before .before .before .table-position .ensures) (c .before .before .before .before .before .before .before .before .before .before .named-of .result) _ (c .before .before .before .before .before .before .before .before .before .before .named-of .ensures) _ _ (sym (c .before .before .before .before .sooner .ensures) ∙ c .before .before .i2 .given .1) in (omega (arith, h .0, ready-count (c .before .before .before .before .before .before .before .before .before .before .before .before .before .before .before .args .ds) (c .before .before .before .before .before .before .before .before .before .before .before .before .before .before .before .args .s .now) (c .before .before .before .before .before .before .before .before .before .before .before .before .before .before .before .pre .1 .0) (c .before .before .before .before .before .before .before .before .before .before .before .before .before .before .before .pre .1 .2), count-small (c .before .before .before .before .before .before .before .before .before .before .before .before .before .before .before .args .s .now) (λ x. c .before .before .before .before .before .before .before .before .before .before .before .before .before .before .shared-slice-known .given x .fits) (ready-long (c .before .before .before .before .before .before .before .before .before .before .before .before .before .before .before .args .ds) (c .before .before .before .before .before .before .before .before .before .before .before .before .before .before .before .args .s .now) (c .before .before .before .before .before .before .before .before .before .before .before .before .before .before .before .pre .1 .0) (c .before .before .before .before .before .before .before .before .before .before .before .before .before .before .before .pre .1 .2))), accepted-small _ _ _ (h .1))
 
 resolve-union-enum-told : (t : ℕ) → resolve-union-lts.Need-enum-told (named-of-below t, named-of.Post, unnamed-kind-reads.Asked, unnamed-kind-reads.Learnt, table-position-reads.Asked, table-position-reads.Learnt, sooner-reads.Asked, sooner-reads.Learnt, tabled-below t, tabled.Post, put-index-reads.Asked, put-index-reads.Learnt, any-of-below t, any-of.Post) (resolve-union-at t) resolve-union.Post
 resolve-union-enum-told t c = search needs
@@ -1365,7 +1368,7 @@ tabled-enum-known-e t c = search needs
 
 tabled-variant-at-requires : (t : ℕ) → tabled-lts.Need-variant-at-requires (indexed-below t, indexed.Post, variant-at-reads.Asked, variant-at-reads.Learnt, is-tried-reads.Asked, is-tried-reads.Learnt, any-of-below t, any-of.Post) (tabled-at t) tabled.Post
 unfolding Reads
-tabled-variant-at-requires t c κs = (union-ready-reads (c .before .before .before .before .before .before .before .before .before .before .args .ds) (c .before .before .before .before .before .before .before .before .before .before .args .s .now) (c .before .before .before .before .before .before .before .before .before .before .pre .1 .0) (c .before .before .before .before .before .before .before .before .before .before .pre .1 .2), c .before .before .before .before .before .before .before .before .before .before .pre .1 .2, omega (arith, (table-count (c .before .before .before .before .before .before .before .before .before .before .args .ds) (c .before .before .before .before .before .before .before .before .before .before .args .s .now) (c .before .before .before .before .before .before .before .before .before .before .pre .1 .0) (c .before .before .before .before .before .before .before .before .before .before .pre .1 .2) (c .before .before .before .before .before .before .before .before .before .before .args .dv) (c .before .before .before .before .before .before .before .before .before .before .args .v .now) (c .before .before .before .before .before .before .before .before .before .before .pre .1 .1 .0) (c .before .before .before .before .before .before .before .before .before .before .pre .1 .1 .1 .0) (c .before .before .before .before .before .before .before .before .before .before .pre .1 .1 .1 .1) (c .before .before .before .before .before .before .before .before .before .before .args .i) (c .before .before .before .before .before .before .before .before .before .before .args .named) (c .before .before .before .before .before .before .before .before .before .before .pre .1 .3)), ready-count (c .before .before .before .before .before .before .before .before .before .before .args .ds) (c .before .before .before .before .before .before .before .before .before .before .args .s .now) (c .before .before .before .before .before .before .before .before .before .before .pre .1 .0) (c .before .before .before .before .before .before .before .before .before .before .pre .1 .2)))
+tabled-variant-at-requires t c κs = (ready-reads (c .before .before .before .before .before .before .before .before .before .before .args .ds) (c .before .before .before .before .before .before .before .before .before .before .args .s .now) (c .before .before .before .before .before .before .before .before .before .before .pre .1 .0), c .before .before .before .before .before .before .before .before .before .before .pre .1 .2, omega (arith, (table-count (c .before .before .before .before .before .before .before .before .before .before .args .ds) (c .before .before .before .before .before .before .before .before .before .before .args .s .now) (c .before .before .before .before .before .before .before .before .before .before .pre .1 .0) (c .before .before .before .before .before .before .before .before .before .before .pre .1 .2) (c .before .before .before .before .before .before .before .before .before .before .args .dv) (c .before .before .before .before .before .before .before .before .before .before .args .v .now) (c .before .before .before .before .before .before .before .before .before .before .pre .1 .1 .0) (c .before .before .before .before .before .before .before .before .before .before .pre .1 .1 .1 .0) (c .before .before .before .before .before .before .before .before .before .before .pre .1 .1 .1 .1) (c .before .before .before .before .before .before .before .before .before .before .args .i) (c .before .before .before .before .before .before .before .before .before .before .args .named) (c .before .before .before .before .before .before .before .before .before .before .pre .1 .3)), ready-count (c .before .before .before .before .before .before .before .before .before .before .args .ds) (c .before .before .before .before .before .before .before .before .before .before .args .s .now) (c .before .before .before .before .before .before .before .before .before .before .pre .1 .0) (c .before .before .before .before .before .before .before .before .before .before .pre .1 .2)))
 
 tabled-sub-is-tried : (t : ℕ) → tabled-lts.Need-sub-is-tried (indexed-below t, indexed.Post, variant-at-reads.Asked, variant-at-reads.Learnt, is-tried-reads.Asked, is-tried-reads.Learnt, any-of-below t, any-of.Post) (tabled-at t) tabled.Post
 tabled-sub-is-tried t c = c .variant-at .ensures .inside
@@ -1472,7 +1475,7 @@ unfolding Reads
 try-any-base-kind-requires t c κs = rw tail-is (variant-reads (c .before .before .before .before .before .before .args .ds) (c .before .before .before .before .before .before .args .s .now) (c .before .before .before .before .before .before .pre .1 .0) (c .before .before .before .before .before .before .pre .1 .2) (c .before .before .before .before .before .before .args .i) (c .before .before .before .before .before .before .args .from) (c .before .before .before .before .before .before .pre .1 .5) (ready-below (c .before .before .before .before .before .before .args .ds) (c .before .before .before .before .before .before .args .s .now) (c .before .before .before .before .before .before .pre .1 .0) (c .before .before .before .before .before .before .pre .1 .2) (c .before .before .before .before .before .before .args .i) (c .before .before .before .before .before .before .pre .1 .4)))
 
 try-any-shared-slice-read-named-kind : (t : ℕ) → try-any-lts.Need-shared-slice-read-named-kind (is-at-reads.Asked, is-at-reads.Learnt, base-kind-reads.Asked, base-kind-reads.Learnt, named-kind-reads.Asked, named-kind-reads.Learnt, was-named-reads.Asked, was-named-reads.Learnt, trial-below t, trial.Post) (try-any-at t) try-any.Post
-try-any-shared-slice-read-named-kind t c = union-value-there (c .before .before .before .before .before .before .before .before .args .dv) (c .before .before .before .before .before .before .before .before .args .v .now) (c .before .before .before .before .before .before .before .before .pre .1 .1)
+try-any-shared-slice-read-named-kind t c = value-there (c .before .before .before .before .before .before .before .before .args .dv) (c .before .before .before .before .before .before .before .before .args .v .now) (c .before .before .before .before .before .before .before .before .pre .1 .1) .1
 
 try-any-named-kind-requires : (t : ℕ) → try-any-lts.Need-named-kind-requires (is-at-reads.Asked, is-at-reads.Learnt, base-kind-reads.Asked, base-kind-reads.Learnt, named-kind-reads.Asked, named-kind-reads.Learnt, was-named-reads.Asked, was-named-reads.Learnt, trial-below t, trial.Post) (try-any-at t) try-any.Post
 try-any-named-kind-requires t c κs = search needs
@@ -1519,7 +1522,7 @@ try-named-returns t c = try-before (c .before .before .before .before .before .a
 
 try-named-variant-at-requires : (t : ℕ) → try-named-lts.Need-variant-at-requires (stands-in-reads.Asked, stands-in-reads.Learnt, variant-at-reads.Asked, variant-at-reads.Learnt, base-kind-reads.Asked, base-kind-reads.Learnt, trial-below t, trial.Post) (try-named-at t) try-named.Post
 unfolding Reads
-try-named-variant-at-requires t c κs = (union-ready-reads (c .before .before .before .before .before .args .ds) (c .before .before .before .before .before .args .s .now) (c .before .before .before .before .before .pre .1 .0) (c .before .before .before .before .before .pre .1 .2), c .before .before .before .before .before .pre .1 .2, omega (arith, (ready-below (c .before .before .before .before .before .args .ds) (c .before .before .before .before .before .args .s .now) (c .before .before .before .before .before .pre .1 .0) (c .before .before .before .before .before .pre .1 .2) (c .before .before .before .before .before .args .i) (c .before .before .before .before .before .pre .1 .3)), ready-count (c .before .before .before .before .before .args .ds) (c .before .before .before .before .before .args .s .now) (c .before .before .before .before .before .pre .1 .0) (c .before .before .before .before .before .pre .1 .2)))
+try-named-variant-at-requires t c κs = (ready-reads (c .before .before .before .before .before .args .ds) (c .before .before .before .before .before .args .s .now) (c .before .before .before .before .before .pre .1 .0), c .before .before .before .before .before .pre .1 .2, omega (arith, (ready-below (c .before .before .before .before .before .args .ds) (c .before .before .before .before .before .args .s .now) (c .before .before .before .before .before .pre .1 .0) (c .before .before .before .before .before .pre .1 .2) (c .before .before .before .before .before .args .i) (c .before .before .before .before .before .pre .1 .3)), ready-count (c .before .before .before .before .before .args .ds) (c .before .before .before .before .before .args .s .now) (c .before .before .before .before .before .pre .1 .0) (c .before .before .before .before .before .pre .1 .2)))
 
 try-named-sub-base-kind : (t : ℕ) → try-named-lts.Need-sub-base-kind (stands-in-reads.Asked, stands-in-reads.Learnt, variant-at-reads.Asked, variant-at-reads.Learnt, base-kind-reads.Asked, base-kind-reads.Learnt, trial-below t, trial.Post) (try-named-at t) try-named.Post
 try-named-sub-base-kind t c = c .variant-at .ensures .inside

@@ -1,13 +1,13 @@
 use native.Mathlib.Omega.{arith}
 use Rattle.text.specs.Measured.{Reads}
-use Rattle.resolution.proofs.UnionReading.{schema-there}
+use Rattle.frame.proofs.SchemaNodes.{schema-there}
 use Rattle.resolution.proofs.UnionKinds.{low-base, int-base, long-base, duration-base, decimal-long, decimal-bytes, decimal-fixed, uuid-long, uuid-bytes, uuid-string, uuid-fixed}
 use Rattle.resolution.proofs.union.base_kind.Statement.{statement}
 use Rattle.resolution.proofs.union.base_kind.Tie as tie
 
 shared-slice-read-k : tie.Need-shared-slice-read-k
 unfolding Reads
-shared-slice-read-k c = schema-there (c .before .args .depth) (c .before .args .s .now) (c .before .pre .0) (c .before .pre .1 .0) (c .before .pre .1 .1) .1
+shared-slice-read-k c = schema-there (c .before .args .depth) (c .before .args .s .now) (c .before .pre) .1
 
 returns : tie.Need-returns
 unfolding Reads

@@ -1,14 +1,15 @@
 use mathlib.Core.Path.{sym, ap, _∙_}
 use Rattle.text.specs.Measured.{Reads}
+use Rattle.frame.proofs.SchemaNodes.{schema-there, schema-kind}
 use Rattle.resolution.specs.UnionContract.{mustBeTried}
-use Rattle.resolution.proofs.UnionReading.{schema-there, on-read-of}
-use Rattle.resolution.proofs.UnionKinds.{schema-kind, map-tried, array-tried}
+use Rattle.resolution.proofs.UnionReading.{on-read-of}
+use Rattle.resolution.proofs.UnionKinds.{map-tried, array-tried}
 use Rattle.resolution.proofs.union.is_tried.Statement.{statement}
 use Rattle.resolution.proofs.union.is_tried.Tie as tie
 
 shared-slice-read-k : tie.Need-shared-slice-read-k
 unfolding Reads
-shared-slice-read-k c = schema-there (c .before .args .depth) (c .before .args .s .now) (c .before .pre .0) (c .before .pre .1 .0) (c .before .pre .1 .1) .1
+shared-slice-read-k c = schema-there (c .before .args .depth) (c .before .args .s .now) (c .before .pre) .1
 
 returns : tie.Need-returns
 unfolding Reads

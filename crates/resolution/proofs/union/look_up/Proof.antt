@@ -1,5 +1,6 @@
 use native.Mathlib.Omega.{arith}
-use Rattle.resolution.proofs.UnionTables.{Looking, table-count, looking-start, looking-end, looking-inside, looking-hit, looking-step}
+use Rattle.frame.proofs.Counting.{reads-list}
+use Rattle.resolution.proofs.UnionTables.{Looking, looking-start, looking-end, looking-inside, looking-hit, looking-step}
 use Rattle.resolution.proofs.union.look_up.Statement.{statement}
 use Rattle.resolution.proofs.union.look_up.Tie as tie
 
@@ -10,7 +11,7 @@ abbrev μ-loop : tie.MeasureT-loop
 μ-loop s kind left₀ at₀ left at = left
 
 read2-requires : tie.Need-read2-requires Inv-loop μ-loop
-read2-requires c κs = table-count (c .before .args .s .now) (c .before .pre)
+read2-requires c κs = reads-list _ (c .before .args .s .now) (c .before .pre)
 
 loop-holds : tie.Need-loop-holds Inv-loop μ-loop
 loop-holds c = looking-start (c .before .before .args .kind) (c .before .before .args .s .now) _ (c .before .before .pre) (c .read2 .ensures)

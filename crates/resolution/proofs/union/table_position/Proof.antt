@@ -1,10 +1,11 @@
 use borrow.Author.Needs.{needs}
 use mathlib.Core.Path.{sym, ap, _∙_}
 use Rattle.text.specs.Measured.{Reads}
+use Rattle.frame.proofs.Reading.{reads-some}
 use Rattle.buffer.proofs.BuiltLaws.{tail-is}
 use Rattle.resolution.specs.Contract.{foundOf, kindTable, wantedOf}
 use Rattle.resolution.specs.UnionContract.{lookupRead, tableLookup}
-use Rattle.resolution.proofs.UnionReading.{on-read-of, reads-some, union-parts, table-reads}
+use Rattle.resolution.proofs.UnionReading.{on-read-of, union-parts, table-reads}
 use Rattle.resolution.proofs.union.table_position.Statement.{statement}
 use Rattle.resolution.proofs.union.table_position.Tie as tie
 
@@ -35,7 +36,7 @@ part-look-up-end c = search needs
 
 look-up-requires : tie.Need-look-up-requires
 unfolding Reads
-look-up-requires c κs = rw tail-is (reads-some _ _ _ (table-reads (c .before .before .before .before .before .before .before .args .depth) (c .before .before .before .before .before .before .before .args .s .now) (c .before .before .before .before .before .before .before .pre .0 .0) (union-parts (c .before .before .before .before .before .before .before .args .depth) (c .before .before .before .before .before .before .before .args .s .now) (c .before .before .before .before .before .before .before .pre .0 .0) (c .before .before .before .before .before .before .before .pre .0 .1 .0) (c .before .before .before .before .before .before .before .pre .0 .1 .1) (c .before .before .before .before .before .before .before .pre .1)) _ _ (c .before .variant-at .ensures) (c .before .before .read2 .ensures)))
+look-up-requires c κs = rw tail-is (reads-some _ _ (table-reads (c .before .before .before .before .before .before .before .args .depth) (c .before .before .before .before .before .before .before .args .s .now) (c .before .before .before .before .before .before .before .pre .0 .0) (union-parts (c .before .before .before .before .before .before .before .args .depth) (c .before .before .before .before .before .before .before .args .s .now) (c .before .before .before .before .before .before .before .pre .0 .0) (c .before .before .before .before .before .before .before .pre .0 .1 .0) (c .before .before .before .before .before .before .before .pre .0 .1 .1) (c .before .before .before .before .before .before .before .pre .1)) _ _ (c .before .variant-at .ensures) (c .before .before .read2 .ensures)))
 
 returns : tie.Need-returns
 unfolding Reads foundOf tableLookup wantedOf

@@ -3,9 +3,11 @@ use Prim.Native.Nat.{_-_, _≤_}
 use mathlib.Core.Path.{_≡_, subst}
 use lib.ListN.{length-drop}
 use Rattle.text.specs.Measured.{Reads}
+use Rattle.frame.proofs.Measuring.{spans-le}
+use Rattle.frame.proofs.SchemaNodes.{schema-there}
 use Rattle.buffer.proofs.BuiltLaws.{tail-is}
 use Rattle.resolution.specs.UnionContract.{Passed}
-use Rattle.resolution.proofs.UnionReading.{schema-there, union-parts, passed-start, passed-reads, passed-step, spans-inside}
+use Rattle.resolution.proofs.UnionReading.{union-parts, passed-start, passed-reads, passed-step}
 use Rattle.resolution.proofs.union.variant_at.Statement.{statement}
 use Rattle.resolution.proofs.union.variant_at.Tie as tie
 
@@ -30,13 +32,13 @@ part-schema-len-end c = omega arith
 
 sub-schema-len-2 : tie.Need-sub-schema-len-2 Inv-loop μ-loop
 unfolding Reads
-sub-schema-len-2 c = schema-there (c .before .before .before .before .args .depth) (c .before .before .before .before .args .s .now) (c .before .before .before .before .pre .0 .0) (c .before .before .before .before .pre .0 .1 .0) (c .before .before .before .before .pre .0 .1 .1) .0
+sub-schema-len-2 c = schema-there (c .before .before .before .before .args .depth) (c .before .before .before .before .args .s .now) (c .before .before .before .before .pre .0) .0
 
 schema-len-requires : tie.Need-schema-len-requires Inv-loop μ-loop
 schema-len-requires c κs = rw tail-is (passed-reads (c .before .before .before .before .args .depth) (c .before .before .before .before .args .s .now) (c .before .before .loop .j) (c .before .before .loop .at) (c .before .before .loop .inv .1) (omega (arith, c .before .before .before .before .pre .2, c .before .loop-test .taken)))
 
 add-at : tie.Need-add-at Inv-loop μ-loop
-add-at c = omega (arith, spans-inside _ _ _ (rw tail-is at (c .schema-len .ensures)), length-drop (c .before .before .before .loop .at) (c .before .before .before .before .before .args .s .now), c .before .before .before .loop .inv .1 .inside)
+add-at c = omega (arith, spans-le _ _ _ (rw tail-is at (c .schema-len .ensures)), length-drop (c .before .before .before .loop .at) (c .before .before .before .before .before .args .s .now), c .before .before .before .loop .inv .1 .inside)
 
 add-j : tie.Need-add-j Inv-loop μ-loop
 add-j c = omega arith
