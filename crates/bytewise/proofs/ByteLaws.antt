@@ -17,8 +17,11 @@ use Rattle.scalar.specs.declared.Narrowed.the-variants.{To, OutOfRange}
 use Rattle.frame.specs.Kind
 use Rattle.frame.specs.Tree.{Value, kindOf, number, items, peel}
 use Rattle.frame.specs.Readers.{readMany, readList}
-use Rattle.frame.specs.ValueFrame.{Content, array, union, table, content, itemsOf, readContent, readValue}
+use Rattle.frame.specs.ValueFrame.{array, union, table, content, itemsOf, readContent, readValue}
 use Rattle.frame.specs.Checks.{Spans}
+use Rattle.frame.proofs.Reading.{bind-some, mapRead, reads-some, reads-eq, not-reads, reads-first, reads-number}
+use Rattle.frame.proofs.Counting.{many-suc, many-zero, list-many, reads-list}
+use Rattle.frame.proofs.ValueNodes.{value-content}
 use Rattle.buffer.specs.Built.{Built, Wrote}
 use Rattle.buffer.specs.declared.Answer.{Answer}
 use Rattle.buffer.specs.declared.Answer.the-variants as A
@@ -27,9 +30,7 @@ use Rattle.types.specs.Contract.{encoded, onRead}
 use Rattle.types.proofs.NodeLaws.{wrote-ok, wrote-no}
 use Rattle.types.proofs.ScalarLaws.{int-kept, int-of-long, int-past, int-refused}
 use Rattle.types.proofs.PartLaws.{content-Bytes, content-Array, encode-counted, built-counted}
-use Rattle.value.proofs.ReaderLaws.{mapRead, bind-some, reads-first, reads-eq, reads-some, reads-number, reads-list, not-reads, many-suc, many-zero, list-many}
-use Rattle.value.proofs.NodeLaws.{value-node, arrayOf}
-use Rattle.value.proofs.SkipLaws.{known-depth, known-byte}
+use Rattle.value.proofs.NodeLaws.{arrayOf}
 use Rattle.bytewise.specs.Items.{byteOf, inByte, intByte, listBytes, itemsAsBytes}
 use Rattle.bytewise.specs.declared.Byte.{Byte}
 use Rattle.bytewise.specs.declared.Byte.the-variants.{Is, Refused}
@@ -97,16 +98,10 @@ pub record Holding (d : ℕ) (s : List ℕ) : Type 0 where
   pub outer : readValue d s ≡ some (Value.Union index held, rest)
 
 module _ (d : ℕ) (s : List ℕ) (p : Reads (readValue d s)) where
-  opened : (k : ℕ) (c : Content) → content k ≡ c → getD s 0 0 ≡ k → readValue d s ≡ readContent (readValue (d - 1)) k c (drop 1 s)
-  opened k c e h =
-      value-node d s (known-depth d s p) (known-byte d s p)
-      ∙ ap (λ x. readContent (readValue (d - 1)) x (content x) (drop 1 s)) h
-      ∙ ap (λ y. readContent (readValue (d - 1)) k y (drop 1 s)) e
-
   pub union-node : getD s 0 0 ≡ Kind.Union → Holding d s
   unfolding readContent Reads
   union-node h =
-      let q = opened Kind.Union union content-Union h in
+      let q = value-content d s p Kind.Union union content-Union h in
       let r = reads-eq _ _ q p in
       let l : 4 ≤ length (drop 1 s) = reads-number 4 (drop 1 s) (reads-first (readNumber 4 (drop 1 s)) _ r) in
       let e : readNumber 4 (drop 1 s) ≡ some (numberAt s 1 4, drop 5 s) = readNumber-some 4 (drop 1 s) l ∙ rw (drop-drop 4 1 s) in
@@ -134,7 +129,7 @@ module _ (d : ℕ) (s : List ℕ) (p : Reads (readValue d s)) where
   -- the items of an Array
   array-node : getD s 0 0 ≡ Kind.Array → readValue d s ≡ mapRead arrayOf (readList (readValue (d - 1)) (drop 1 s))
   unfolding readContent
-  array-node h = opened Kind.Array array content-Array h
+  array-node h = value-content d s p Kind.Array array content-Array h
 
   pub array-reads : getD s 0 0 ≡ Kind.Array → (x : List ℕ) → x ≡ drop 1 s → Reads (readList (readValue (d - 1)) x)
   array-reads h x l = rw l (reads-first (readList (readValue (d - 1)) (drop 1 s)) _ (reads-eq _ _ (array-node h) p))

@@ -4,8 +4,10 @@ use mathlib.Core.Path.{_≡_, refl, sym, _∙_}
 use borrow.Author.Needs.{needs}
 use lib.ListN.{length, length-drop}
 use Rattle.frame.specs.ValueFrame.{readValue}
+use Rattle.frame.proofs.Reading.{suffix}
+use Rattle.frame.proofs.Measuring.{spans-le}
+use Rattle.frame.proofs.Counting.{reads-list}
 use Rattle.buffer.proofs.BuiltLaws.{built-small}
-use Rattle.value.proofs.ReaderLaws.{suffix, spans-le, reads-list}
 use Rattle.bytewise.proofs.ByteLaws.{Filling, filling-start, filling-first, filling-step, items-accepted, items-refused}
 use Rattle.bytewise.proofs.byte_items.Statement.{statement}
 use Rattle.bytewise.proofs.byte_items.Tie as tie

@@ -4,8 +4,9 @@ use Prim.Native.Nat.{ℕ}
 use mathlib.Core.Path.{refl, sym, ap, _∙_}
 use Rattle.number.proofs.Laws.{getD-allBytes}
 use Rattle.text.specs.Measured.{Reads}
+use Rattle.frame.proofs.ValueNodes.{value-there, value-kind}
 use Rattle.scalar.specs.Scalars.{narrowed}
-use Rattle.types.proofs.NodeLaws.{node-there, wide-node, node-kind}
+use Rattle.types.proofs.NodeLaws.{wide-node}
 use Rattle.types.proofs.ScalarLaws.{int-content, long-content}
 use Rattle.bytewise.specs.Items.{byteOf, inByte, intByte}
 use Rattle.bytewise.proofs.ByteLaws.{byte-answer, int-is, long-is, long-past, no-int}
@@ -14,7 +15,7 @@ use Rattle.bytewise.proofs.int_byte.Statement.{statement}
 use Rattle.bytewise.proofs.int_byte.Tie as tie
 
 shared-slice-read-k : tie.Need-shared-slice-read-k
-shared-slice-read-k c = node-there _ _ (c .before .before .pre)
+shared-slice-read-k c = value-there _ _ (c .before .before .pre) .1
 
 read4-requires : tie.Need-read4-requires
 read4-requires c κs = wide-node _ _ (c .before .before .before .pre) 2 4 int-content (c .if1 .taken) .0
@@ -49,7 +50,7 @@ returns-3 c = byte-answer intByte _ _ _ _ _ (wide-node _ _ (c .before .before .b
 
 returns-4 : tie.Need-returns-4
 unfolding byteOf Reads
-returns-4 c = byte-answer intByte _ _ _ _ _ (c .before .before .before .before .pre .1 .1) (no-int _ (c .before .if1 .left) (c .if2 .left) _ (node-kind _ _ (getD-allBytes _ (λ i. omega (arith, c .before .before .before .shared-slice-known .given i))) _ _ (c .before .before .before .before .pre .1 .1))) refl
+returns-4 c = byte-answer intByte _ _ _ _ _ (c .before .before .before .before .pre .1 .1) (no-int _ (c .before .if1 .left) (c .if2 .left) _ (value-kind _ _ (getD-allBytes _ (λ i. omega (arith, c .before .before .before .shared-slice-known .given i))) _ _ (c .before .before .before .before .pre .1 .1))) refl
 
 pub int-byte-spec : {M : Type 1} → statement M
 int-byte-spec =

@@ -2,19 +2,19 @@
 use native.Mathlib.Omega.{arith}
 use Rattle.number.proofs.Laws.{getD-allBytes}
 use Rattle.frame.specs.Tree.{kindOf, octets}
+use Rattle.frame.proofs.Reading.{suffix}
+use Rattle.frame.proofs.ValueNodes.{value-there}
 use Rattle.types.specs.Types.{resolve-bytes}
-use Rattle.types.proofs.NodeLaws.{node-there, kind-refused}
+use Rattle.types.proofs.NodeLaws.{kind-refused}
 use Rattle.types.proofs.PartLaws.{content-Bytes, content-String, counted-reads, text-reads-counted, wrote-counted, on-counted, on-text}
 use Rattle.types.proofs.OctetLaws.{bytes-other}
-use Rattle.value.proofs.ReaderLaws.{suffix}
-use Rattle.value.proofs.SkipLaws.{known-depth}
 use Rattle.bytewise.proofs.ByteLaws.{array-reads, array-answer}
 use borrow.Author.Needs.{needs}
 use Rattle.bytewise.proofs.resolve_bytes.Statement.{statement}
 use Rattle.bytewise.proofs.resolve_bytes.Tie as tie
 
 shared-slice-read-if1 : tie.Need-shared-slice-read-if1
-shared-slice-read-if1 c = node-there _ _ (c .before .before .before .pre)
+shared-slice-read-if1 c = value-there _ _ (c .before .before .before .pre) .1
 
 content-requires : tie.Need-content-requires
 content-requires c κs = counted-reads _ _ (c .before .before .before .before .before .pre) 6 content-Bytes (c .before .if1 .taken)
@@ -30,7 +30,7 @@ unfolding resolve-bytes kindOf octets
 returns c = on-counted resolve-bytes _ _ (c .before .before .before .before .before .before .before .before .before .pre) 6 _ _ _ content-Bytes (c .before .before .before .before .before .if1 .taken) (c .before .before .before .content .ensures) (wrote-counted 6 _ _ _ content-Bytes (c .before .before .put-counted .ensures))
 
 shared-slice-read-if2 : tie.Need-shared-slice-read-if2
-shared-slice-read-if2 c = node-there _ _ (c .before .before .before .before .before .pre)
+shared-slice-read-if2 c = value-there _ _ (c .before .before .before .before .before .pre) .1
 
 content-requires-2 : tie.Need-content-requires-2
 content-requires-2 c κs = text-reads-counted _ _ (c .before .before .before .before .before .before .before .pre) 7 content-String (c .before .if2 .taken)
@@ -46,19 +46,19 @@ unfolding resolve-bytes kindOf octets
 returns-2 c = on-text resolve-bytes _ _ (c .before .before .before .before .before .before .before .before .before .before .before .pre) _ _ _ (c .before .before .before .before .before .if2 .taken) (c .before .before .before .content2 .ensures) (wrote-counted 6 _ _ _ content-Bytes (c .before .before .put-counted2 .ensures))
 
 shared-slice-read-if3 : tie.Need-shared-slice-read-if3
-shared-slice-read-if3 c = node-there _ _ (c .before .before .before .before .before .before .before .pre)
+shared-slice-read-if3 c = value-there _ _ (c .before .before .before .before .before .before .before .pre) .1
 
 sub-byte-items : tie.Need-sub-byte-items
-sub-byte-items c = omega (arith, node-there _ _ (c .before .before .before .before .before .before .before .before .pre))
+sub-byte-items c = omega (arith, value-there _ _ (c .before .before .before .before .before .before .before .before .pre) .1)
 
 part-byte-items-start : tie.Need-part-byte-items-start
-part-byte-items-start c = omega (arith, node-there _ _ (c .before .before .before .before .before .before .before .before .pre))
+part-byte-items-start c = omega (arith, value-there _ _ (c .before .before .before .before .before .before .before .before .pre) .1)
 
 part-byte-items-end : tie.Need-part-byte-items-end
 part-byte-items-end c = search needs
 
 sub-byte-items-2 : tie.Need-sub-byte-items-2
-sub-byte-items-2 c = omega (arith, known-depth _ _ (c .before .before .before .before .before .before .before .before .before .before .pre))
+sub-byte-items-2 c = omega (arith, value-there _ _ (c .before .before .before .before .before .before .before .before .before .before .pre) .0)
 
 byte-items-requires : tie.Need-byte-items-requires
 byte-items-requires c κs = array-reads _ _ (c .before .before .before .before .before .before .before .before .before .before .pre) (c .before .before .if3 .taken) _ (suffix 1 (c .before .before .before .before .before .before .before .before .before .before .args .v .now))

@@ -2,16 +2,15 @@
 use native.Mathlib.Omega.{arith}
 use mathlib.Core.Path.{sym, _∙_}
 use Rattle.number.proofs.Laws.{getD-allBytes}
-use Rattle.types.proofs.NodeLaws.{node-there, node-kind}
-use Rattle.value.proofs.ReaderLaws.{suffix}
-use Rattle.value.proofs.SkipLaws.{known-depth}
+use Rattle.frame.proofs.Reading.{suffix}
+use Rattle.frame.proofs.ValueNodes.{value-there, value-kind}
 use Rattle.bytewise.proofs.ByteLaws.{union-node, union-reads, union-answer, plain-answer}
 use borrow.Author.Needs.{needs}
 use Rattle.bytewise.proofs.try_u8.Statement.{statement}
 use Rattle.bytewise.proofs.try_u8.Tie as tie
 
 shared-slice-read-if1 : tie.Need-shared-slice-read-if1
-shared-slice-read-if1 c = node-there _ _ (c .before .before .pre)
+shared-slice-read-if1 c = value-there _ _ (c .before .before .pre) .1
 
 sub-int-byte : tie.Need-sub-int-byte
 sub-int-byte c = omega (arith, union-node _ _ (c .before .before .before .pre) (c .if1 .taken) .inside)
@@ -23,7 +22,7 @@ part-int-byte-end : tie.Need-part-int-byte-end
 part-int-byte-end c = search needs
 
 sub-int-byte-2 : tie.Need-sub-int-byte-2
-sub-int-byte-2 c = omega (arith, known-depth _ _ (c .before .before .before .before .pre))
+sub-int-byte-2 c = omega (arith, value-there _ _ (c .before .before .before .before .pre) .0)
 
 int-byte-requires : tie.Need-int-byte-requires
 int-byte-requires c κs = union-reads _ _ (c .before .before .before .before .pre) (c .before .if1 .taken) _ (suffix 5 (c .before .before .before .before .args .v .now))
@@ -35,7 +34,7 @@ int-byte-requires-2 : tie.Need-int-byte-requires-2
 int-byte-requires-2 c κs = search needs
 
 returns-2 : tie.Need-returns-2
-returns-2 c = plain-answer _ _ _ (λ w r e k. c .before .if1 .left (sym (node-kind _ _ (getD-allBytes _ (λ i. omega (arith, c .before .before .before .shared-slice-known .given i))) w r e) ∙ k)) (c .int-byte2 .ensures)
+returns-2 c = plain-answer _ _ _ (λ w r e k. c .before .if1 .left (sym (value-kind _ _ (getD-allBytes _ (λ i. omega (arith, c .before .before .before .shared-slice-known .given i))) w r e) ∙ k)) (c .int-byte2 .ensures)
 
 pub try-u8-spec : {M : Type 1} → statement M
 try-u8-spec =
