@@ -18,12 +18,14 @@ use Rattle.text.proofs.ReadLaws.{readText-counted}
 use Rattle.frame.specs.Tree as Tree
 use Rattle.frame.specs.Tree.{Value}
 use Rattle.frame.specs.Readers.{readMany, readList}
-use Rattle.frame.specs.ValueFrame.{table, content, entriesOf, readEntry, readContent, readValue}
+use Rattle.frame.specs.ValueFrame.{table, entriesOf, readEntry, readContent, readValue}
 use Rattle.frame.specs.Checks.{Spans}
+use Rattle.frame.proofs.Reading.{bind-some, mapRead, map-map, reads-eq, reads-first}
+use Rattle.frame.proofs.Measuring.{spans-some}
+use Rattle.frame.proofs.Counting.{many-suc, many-zero, list-behind}
+use Rattle.frame.proofs.ValueNodes.{value-opened}
 use Rattle.avro.specs.Resolve.{orElse, lookup}
-use Rattle.value.proofs.ReaderLaws.{mapRead, bind-some, map-map, reads-eq, reads-first, reads-list, many-suc, many-zero, list-many, spans-some}
-use Rattle.value.proofs.NodeLaws.{value-node}
-use Rattle.value.proofs.SkipLaws.{known-depth, known-byte, entry-counted, entry-node}
+use Rattle.value.proofs.SkipLaws.{entry-counted, entry-node}
 use Rattle.find.specs.Find.{Keyed, Located, entryUnder}
 use Rattle.find.specs.Latest.{hit, later, foundAt}
 use Rattle.find.specs.declared.Found.{Found}
@@ -39,19 +41,19 @@ pub record Holds (d : ℕ) (v : List ℕ) : Type 0 where
 
 pub keyed-holds : (d : ℕ) (v : List ℕ) → Reads (readValue d v) → Keyed v → Holds d v
 unfolding Keyed readContent table Tree.entries
-keyed-holds d v r k = go k (value-node d v (known-depth d v r) (known-byte d v r))
+keyed-holds d v r k = go k
   where
-    go : (getD v 0 0 ≡ 9) ⊎ (getD v 0 0 ≡ 11) → readValue d v ≡ readContent (readValue (d - 1)) (getD v 0 0) (content (getD v 0 0)) (drop 1 v) → Holds d v
-    go (inl e) q =
-        record { made = λ es. Value.Map (entriesOf es); reads = q ∙ ap (λ k. readContent (readValue (d - 1)) k (content k) (drop 1 v)) e; hold = λ es. refl }
-    go (inr e) q =
-        record { made = λ es. Value.Record (entriesOf es); reads = q ∙ ap (λ k. readContent (readValue (d - 1)) k (content k) (drop 1 v)) e; hold = λ es. refl }
+    go : (getD v 0 0 ≡ 9) ⊎ (getD v 0 0 ≡ 11) → Holds d v
+    go (inl e) = record { made = λ es. Value.Map (entriesOf es); reads = value-opened d v r 9 e; hold = λ es. refl }
+    go (inr e) = record { made = λ es. Value.Record (entriesOf es); reads = value-opened d v r 11 e; hold = λ es. refl }
 
--- room for the kind and the count
+-- room for the kind and the count, and the entries behind them
+keyed-entries : (d : ℕ) (v : List ℕ) → Reads (readValue d v) → Keyed v
+    → (3 ≤ length v) × (readList (readEntry (readValue (d - 1))) (drop 1 v) ≡ readMany (readEntry (readValue (d - 1))) (numberAt v 1 2) (drop 3 v))
+keyed-entries d v r k = list-behind (readEntry (readValue (d - 1))) v (reads-first _ _ (reads-eq _ _ (keyed-holds d v r k .reads) r))
+
 pub keyed-length : (d : ℕ) (v : List ℕ) → Reads (readValue d v) → Keyed v → 3 ≤ length v
-keyed-length d v r k =
-    let h : 2 ≤ length (drop 1 v) = reads-list _ (drop 1 v) (reads-first _ _ (reads-eq _ _ (keyed-holds d v r k .reads) r)) in
-    omega (arith, length-drop 1 v)
+keyed-length d v r k = keyed-entries d v r k .0
 
 -- ---- the search
 
@@ -75,12 +77,10 @@ unfolding Located
 finding-start v x d n r k e =
     let p = readEntry (readValue (d - 1)) in
     let w = keyed-holds d v r k in
-    let h : 2 ≤ length (drop 1 v) = reads-list p (drop 1 v) (reads-first _ _ (reads-eq _ _ (w .reads) r)) in
-    let f : readMany p (numberAt v 1 2) (drop 2 (drop 1 v)) ≡ readMany p n (drop 3 v) = ap (readMany p (numberAt v 1 2)) (drop-drop 2 1 v) ∙ ap (λ i. readMany p i (drop 3 v)) (sym e) in
     record {
       inside = keyed-length d v r k;
       join = w .made;
-      reads = w .reads ∙ ap (mapRead (w .made)) (list-many p (drop 1 v) h ∙ f);
+      reads = w .reads ∙ ap (mapRead (w .made)) (keyed-entries d v r k .1 ∙ ap (λ i. readMany p i (drop 3 v)) (sym e));
       best = none;
       kept = tt;
       under = λ es. ap (lookup x) (w .hold es) ∙ else-none (lookup x (entriesOf es));

@@ -16,7 +16,7 @@ use Rattle.text.specs.Measured.{Reads}
 use Rattle.text.proofs.TextLaws.{same→≡}
 use Rattle.frame.specs.ValueFrame.{readValue}
 use Rattle.frame.specs.Checks.{Spans}
-use Rattle.value.proofs.ReaderLaws.{spans-le}
+use Rattle.frame.proofs.Measuring.{spans-le}
 use Rattle.index.specs.Places.{textAt, lastPlace}
 use Rattle.index.specs.Table.{Indexed}
 use Rattle.index.proofs.PlaceLaws.{textAt-counted, lastPlace-none, lastPlace-more}

@@ -18,9 +18,8 @@ use Rattle.text.proofs.ReadLaws.{readNumber-some}
 use Rattle.frame.specs.Tree.{Value, peel}
 use Rattle.frame.specs.Readers.{readFlag, readList}
 use Rattle.frame.specs.ValueFrame.{Content, wide, flag, counted, text, plain, array, map, union, entries, symbol, unknown, table, content, itemsOf, entriesOf, readEntry, readContent, readValue}
-use Rattle.value.proofs.ReaderLaws.{mapRead, bind-some, reads-eq, reads-first, reads-number}
-use Rattle.value.proofs.NodeLaws.{value-node}
-use Rattle.value.proofs.SkipLaws.{known-depth, known-byte}
+use Rattle.frame.proofs.Reading.{bind-some, mapRead, reads-eq, reads-first, reads-number}
+use Rattle.frame.proofs.ValueNodes.{value-opened}
 use Rattle.find.specs.Find.{peelRead}
 
 -- ---- what a Union holds
@@ -41,8 +40,7 @@ union-holds node k s h = bind-some (readNumber 4 s) _ (numberAt s 0 4) (drop 4 s
 pub peel-union : (d : ℕ) (v : List ℕ) → Reads (readValue d v) → getD v 0 0 ≡ 10 → (5 ≤ length v) × (readValue (d - 1) (drop 5 v) ≡ peelRead (readValue d v))
 unfolding table
 peel-union d v r e =
-    let q : readValue d v ≡ readContent (readValue (d - 1)) 10 union (drop 1 v) =
-    value-node d v (known-depth d v r) (known-byte d v r) ∙ ap (λ k. readContent (readValue (d - 1)) k (content k) (drop 1 v)) e in
+    let q : readValue d v ≡ readContent (readValue (d - 1)) 10 union (drop 1 v) = value-opened d v r 10 e in
     let h : 4 ≤ length (drop 1 v) = union-length (readValue (d - 1)) 10 (drop 1 v) (reads-eq _ _ q r) in
     let f : readValue (d - 1) (drop 4 (drop 1 v)) ≡ peelRead (readValue d v) =
     sym (ap peelRead (q ∙ union-holds (readValue (d - 1)) 10 (drop 1 v) h) ∙ peel-held (numberAt (drop 1 v) 0 4) (readValue (d - 1) (drop 4 (drop 1 v)))) in
@@ -111,7 +109,7 @@ peel-content node k s unknown e = refl
 
 pub peel-other : (d : ℕ) (v : List ℕ) → Reads (readValue d v) → (getD v 0 0 ≡ 10 → ⊥) → readValue d v ≡ peelRead (readValue d v)
 peel-other d v r n =
-    let q = value-node d v (known-depth d v r) (known-byte d v r) in
+    let q = value-opened d v r _ refl in
     q ∙ sym (ap peelRead q ∙ peel-content (readValue (d - 1)) (getD v 0 0) (drop 1 v) (content (getD v 0 0)) (other-kind (getD v 0 0) n))
 
 -- ---- what is peeled was read

@@ -1,8 +1,9 @@
 -- `find::entry_len` meets its contract: the name's length and that of the node behind it. Assumes nothing.
 use native.Mathlib.Omega.{arith}
 use Rattle.frame.specs.ValueFrame.{readValue}
+use Rattle.frame.proofs.Reading.{suffix}
+use Rattle.frame.proofs.Measuring.{spans-le}
 use Rattle.text.proofs.ReadLaws.{reads-counted}
-use Rattle.value.proofs.ReaderLaws.{suffix, spans-le}
 use Rattle.value.proofs.SkipLaws.{counted-spans, entry-counted, entry-node, entry-spans}
 use borrow.Author.Needs.{needs}
 use Rattle.find.proofs.entry_len.Statement.{statement}

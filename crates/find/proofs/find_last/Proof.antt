@@ -1,8 +1,8 @@
 use borrow.Author.Needs.{needs}
-use mathlib.Core.Path.{refl, _∙_}
+use mathlib.Core.Path.{refl}
 use native.Mathlib.Omega.{arith}
-use Rattle.value.proofs.ReaderLaws.{suffix}
-use Rattle.value.proofs.SkipLaws.{known-depth}
+use Rattle.frame.proofs.Reading.{suffix}
+use Rattle.frame.proofs.ValueNodes.{value-there}
 use Rattle.find.specs.Latest.{foundAt}
 use Rattle.find.proofs.FindLaws.{Finding, keyed-length, finding-start, finding-name, finding-inside, finding-value, finding-step, finding-end}
 use Rattle.find.proofs.find_last.Statement.{statement}
@@ -66,7 +66,7 @@ part-value-len-end : tie.Need-part-value-len-end Inv-loop μ-loop
 part-value-len-end c = search needs
 
 sub-value-len-2 : tie.Need-sub-value-len-2 Inv-loop μ-loop
-sub-value-len-2 c = let h = known-depth _ _ (c .before .before .before .before .before .before .before .before .before .before .pre .0) in omega arith
+sub-value-len-2 c = let h = value-there _ _ (c .before .before .before .before .before .before .before .before .before .before .pre .0) .0 in omega arith
 
 value-len-requires : tie.Need-value-len-requires Inv-loop μ-loop
 value-len-requires c κs = rw suffix (finding-value _ _ _ _ _ _ (c .before .before .before .before .before .before .loop .inv) (c .before .before .before .before .before .before .before .before .before .before .pre .0) (c .before .before .before .before .before .loop-test .taken) _ (rw suffix at (c .before .before .before .content .ensures .0)) (rw suffix at (c .before .before .before .content .ensures .1 .0)))

@@ -6,8 +6,8 @@ use mathlib.Core.Path.{ap, _∙_}
 use mathlib.Core.List.{[]}
 use lib.ListN.{length, length-replicate}
 use native.Mathlib.Omega.{arith}
-use Rattle.value.proofs.ReaderLaws.{suffix}
-use Rattle.value.proofs.SkipLaws.{known-depth}
+use Rattle.frame.proofs.Reading.{suffix}
+use Rattle.frame.proofs.ValueNodes.{value-there}
 use Rattle.find.proofs.FindLaws.{keyed-length}
 use Rattle.find.proofs.MarkLaws.{Marking, marking-start, marking-name, marking-inside, marking-value, marking-within, marking-step, marking-end, marked-not}
 use Rattle.find.proofs.mark.Statement.{statement}
@@ -65,7 +65,7 @@ part-value-len-end : tie.Need-part-value-len-end Inv-loop μ-loop
 part-value-len-end c = search needs
 
 sub-value-len-2 : tie.Need-sub-value-len-2 Inv-loop μ-loop
-sub-value-len-2 c = let h = known-depth _ _ (c .before .before .before .before .before .before .before .before .before .before .before .pre .0) in omega arith
+sub-value-len-2 c = let h = value-there _ _ (c .before .before .before .before .before .before .before .before .before .before .before .pre .0) .0 in omega arith
 
 value-len-requires : tie.Need-value-len-requires Inv-loop μ-loop
 value-len-requires c κs = rw suffix (marking-value _ _ _ _ _ _ (c .before .before .before .before .before .before .before .loop .inv) (c .before .before .before .before .before .before .before .before .before .before .before .pre .0) (c .before .before .before .before .before .before .loop-test .taken) _ (rw suffix at (c .before .content .ensures .0)) (rw suffix at (c .before .content .ensures .1 .0)))
