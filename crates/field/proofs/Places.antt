@@ -1,58 +1,38 @@
 -- The parts of a field that was read, one behind the other, and the places where they begin. Assumes nothing.
 use Prim.Native.Nat.{ℕ, _+_, _≤_, _<_}
-use mathlib.Core.Path.{_≡_, refl, sym, ap, _∙_}
+use mathlib.Core.Path.{_≡_, sym, ap, _∙_}
 use mathlib.Core.List.{List}
 use mathlib.Core.Option.{Option, none, some}
-use mathlib.Core.Bool.{Bool, true, false}
+use mathlib.Core.Bool.{true, false}
 use native.Mathlib.Omega.{arith}
-use lib.Dec.{leb, eqb}
 use lib.ListN.{length, drop, getD, length-drop}
 use lib.Seq.{drop-drop, getD-drop}
-use borrow.Author.Tests.{eq-eqb, ne-eqb, leb-true, leb-false}
-use Rattle.base.specs.Base.{if_then_else_}
 use Rattle.text.specs.Text.{Text}
-use Rattle.text.specs.Read.{Read, _>>=_, readCounted, readText}
+use Rattle.text.specs.Read.{Read, readCounted, readText}
 use Rattle.text.specs.Measured.{Reads}
+use Rattle.text.proofs.ReadLaws.{readText-counted}
 use Rattle.frame.specs.Tree.{Value, Schema}
-use Rattle.frame.specs.Readers.{readFlag, readOption}
+use Rattle.frame.specs.Readers.{readOption}
 use Rattle.frame.specs.ValueFrame.{readValue}
 use Rattle.frame.specs.SchemaFrame.{readField, readSchema}
 use Rattle.frame.specs.Checks.{Spans}
-use Rattle.value.proofs.ReaderLaws.{bind-some, reads-some, not-reads, reads-first, reads-flag, flag-some, flag-large, spans-le}
-use Rattle.schema.proofs.Reading.{read-what, read-rest}
-use Rattle.schema.proofs.Seeking.{bind-inv, text-counted}
+use Rattle.frame.proofs.Reading.{read-what, read-rest, bind-inv, map-inv, reads-some, option-zero, option-one, option-long, option-is-one}
+use Rattle.frame.proofs.Measuring.{spans-le}
 use Rattle.field.specs.Parts.{DefaultAt, FieldParts}
 
--- ---- a flag, and what stands behind it
-
-flag-is : (t : List ℕ) → Reads (readFlag t) → readFlag t ≡ some (getD t 0 0, drop 1 t)
-flag-is t r = go (leb (getD t 0 0) 1) refl
-  where
-    go : (b : Bool) → leb (getD t 0 0) 1 ≡ b → readFlag t ≡ some (getD t 0 0, drop 1 t)
-    go true e = flag-some t (reads-flag t r) (leb-true _ _ e)
-    go false e = absurd (not-reads _ (flag-large t (reads-flag t r) (leb-false _ _ e)) r)
+-- ---- an optional thing that was read
 
 module _ {A : Type 0} (p : List ℕ → Read A) (t : List ℕ) (d : Option A) (u : List ℕ) (e : readOption p t ≡ some (d, u)) where
-  option-flag : Reads (readFlag t)
-  unfolding readOption
-  option-flag = reads-first (readFlag t) _ (reads-some d u e)
-
-  option-long : 1 ≤ length t
-  option-long = reads-flag t option-flag
-
-  option-open : readOption p t ≡ (if eqb (getD t 0 0) 0 then some (none, drop 1 t) else (p (drop 1 t) >>= (λ y. some (some (y .0), y .1))))
-  unfolding readOption
-  option-open = bind-some (readFlag t) _ (getD t 0 0) (drop 1 t) (flag-is t option-flag)
+  option-there : 1 ≤ length t
+  option-there = option-long p t (reads-some d u e)
 
   -- 00: nothing
-  option-zero : getD t 0 0 ≡ 0 → _≡_ {A = Read (Option A)} (some (none, drop 1 t)) (some (d, u))
-  option-zero z = sym (option-open ∙ rw (eq-eqb (getD t 0 0) 0 z) refl) ∙ e
+  option-nothing : getD t 0 0 ≡ 0 → _≡_ {A = Read (Option A)} (some (none, drop 1 t)) (some (d, u))
+  option-nothing z = sym (option-zero p t option-there z) ∙ e
 
   -- 01: a thing of p
-  option-one : (getD t 0 0 ≡ 0 → ⊥) → (a : A) × ((p (drop 1 t) ≡ some (a, u)) × (d ≡ some a))
-  option-one z =
-      let w = bind-inv (p (drop 1 t)) (λ y. some (some (y .0), y .1)) (d, u) (sym (option-open ∙ rw (ne-eqb (getD t 0 0) 0 z) refl) ∙ e) in
-      (w .0 .0, (w .1 .0 ∙ ap (λ v. some (w .0 .0, v)) (read-rest (w .1 .1)), sym (read-what (w .1 .1))))
+  option-thing : (getD t 0 0 ≡ 0 → ⊥) → (a : A) × ((p (drop 1 t) ≡ some (a, u)) × (d ≡ some a))
+  option-thing z = map-inv some (p (drop 1 t)) d u (sym (option-one p t option-there (option-is-one p t (reads-some d u e) z)) ∙ e)
 
 -- ---- the parts of a field
 
@@ -82,13 +62,10 @@ parted node s r =
       flagged = w .0 .1;
       behind = v .0 .1;
       whole = r .1 .1 ∙ sym (k .1 .1);
-      first = text-counted s (w .0 .0) (w .0 .1) (w .1 .0);
+      first = readText-counted s (w .0 .0) (w .0 .1) (w .1 .0) .0;
       second = v .1 .0;
       third = k .1 .0;
     }
-
-pub name-reads : (node : List ℕ → Read Schema) (s : List ℕ) → Reads (readField node s) → Reads (readCounted s)
-name-reads node s r = let q = parted node s r in reads-some (q .name) (q .flagged) (q .first)
 
 -- ---- where they begin: the flag stands at n
 
@@ -100,7 +77,7 @@ module _ (depth : ℕ) (s : List ℕ) (r : Reads (readField (readSchema depth) s
   second-at = ap (readOption (readValue 16)) (sym (read-rest (sym (field .first) ∙ g))) ∙ field .second
 
   pub flag-inside : n < length s
-  flag-inside = omega (arith, option-long (readValue 16) (drop n s) _ _ second-at, length-drop n s)
+  flag-inside = omega (arith, option-there (readValue 16) (drop n s) _ _ second-at, length-drop n s)
 
   pub behind-inside : n + 1 ≤ length s
   behind-inside = omega (arith, flag-inside)
@@ -111,7 +88,7 @@ module _ (depth : ℕ) (s : List ℕ) (r : Reads (readField (readSchema depth) s
   -- 00: the schema stands behind the flag
   module _ (z : getD s n 0 ≡ 0) where
     no-default : _≡_ {A = Read (Option Value)} (some (none, drop 1 (drop n s))) (some (field .default, field .behind))
-    no-default = option-zero (readValue 16) (drop n s) _ _ second-at (flag-byte ∙ z)
+    no-default = option-nothing (readValue 16) (drop n s) _ _ second-at (flag-byte ∙ z)
 
     pub parts-none : (at : ℕ) → FieldParts depth s (record { default = false; «default_at» = at; «schema_at» = n + 1 })
     unfolding DefaultAt
@@ -129,7 +106,7 @@ module _ (depth : ℕ) (s : List ℕ) (r : Reads (readField (readSchema depth) s
   -- 01: the default stands behind the flag, and the schema behind the default
   module _ (z : getD s n 0 ≡ 0 → ⊥) where
     a-default : (a : Value) × ((readValue 16 (drop 1 (drop n s)) ≡ some (a, field .behind)) × (field .default ≡ some a))
-    a-default = option-one (readValue 16) (drop n s) _ _ second-at (λ e. z (sym flag-byte ∙ e))
+    a-default = option-thing (readValue 16) (drop n s) _ _ second-at (λ e. z (sym flag-byte ∙ e))
 
     default-is : readValue 16 (drop (n + 1) s) ≡ some (a-default .0, field .behind)
     default-is = ap (readValue 16) (sym (drop-drop 1 n s)) ∙ a-default .1 .0

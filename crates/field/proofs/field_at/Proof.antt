@@ -1,10 +1,11 @@
 -- `field::field_at` meets its contract. Assumes nothing.
-use Rattle.field.proofs.Places.{name-reads, flag-inside, behind-inside, parts-none, default-reads, schema-inside, parts-some}
+use Rattle.field.proofs.Places.{flag-inside, behind-inside, parts-none, default-reads, schema-inside, parts-some}
 use native.Mathlib.Omega.{arith}
-use Rattle.value.proofs.ReaderLaws.{suffix}
 use borrow.Author.Needs.{needs}
+use Rattle.frame.proofs.Reading.{suffix}
 use Rattle.field.proofs.field_at.Statement.{statement}
 use Rattle.field.proofs.field_at.Tie as tie
+use Rattle.schema.proofs.Checking.{name-reads}
 
 content-requires : tie.Need-content-requires
 content-requires c κs = name-reads _ _ (c .before .pre)
