@@ -1,37 +1,36 @@
 -- Enum schemas and values as they stand in frames, and the ways of resolve_enum.
-use Prim.Native.Nat.{ℕ, zero, suc, _+_, _-_, _≤_, _<_}
+use Prim.Native.Nat.{ℕ, _+_, _≤_, _<_}
 use mathlib.Core.Path.{_≡_, refl, sym, ap, _∙_, subst}
-use mathlib.Core.List.{List, [], _∷_, _++_}
+use mathlib.Core.List.{List, _∷_, _++_}
 use mathlib.Core.Option.{Option, none, some}
-use mathlib.Core.Bool.{Bool, true, false}
 use native.Mathlib.Nat.{zero-add, add-zero}
 use native.Mathlib.Omega.{arith}
-use borrow.Author.Tests.{eq-eqb, ne-eqb}
-use lib.Dec.{T, leb, eqb}
-use lib.ListN.{length, getD, take, drop, length-drop}
+use borrow.Author.Tests.{ne-eqb}
+use lib.Dec.{T}
+use lib.ListN.{length, getD, drop, length-drop}
 use lib.Seq.{drop-drop, getD-drop}
-use Rattle.base.specs.Base.{if_then_else_, Result, ok, no}
-use Rattle.number.specs.Number.{allBytes, bigEndian, numberAt, bytesOf}
-use Rattle.number.proofs.Laws.{numberAt-one}
+use Rattle.number.specs.Number.{allBytes, numberAt, bytesOf}
 use Rattle.text.specs.Text.{Text}
-use Rattle.text.specs.Read.{Read, _>>=_, readNumber, readCounted, readText}
+use Rattle.text.specs.Read.{_>>=_, readNumber, readCounted, readText}
 use Rattle.text.specs.Measured.{Reads}
-use Rattle.text.proofs.ReadLaws.{readNumber-some, readText-counted}
+use Rattle.text.proofs.ReadLaws.{readNumber-some, readText-counted, reads-text}
 use Rattle.frame.specs.Kind
 use Rattle.frame.specs.Tree.{Value, Schema, kindOf, octets}
-use Rattle.frame.specs.Readers.{readFlag, readList, readOption}
-use Rattle.frame.specs.ValueFrame.{Content, symbol, content, readContent, readValue, writeText, encodeValue}
+use Rattle.frame.specs.Readers.{readList, readOption}
+use Rattle.frame.specs.ValueFrame.{symbol, readContent, readValue, writeText, encodeValue}
 use Rattle.frame.specs.SchemaFrame.{readSchema, readSchemaContent}
 use Rattle.frame.specs.Checks.{Spans}
+use Rattle.frame.proofs.Reading.{read-rest, bind-some, bind-inv, mapRead, map-inv, reads-first, reads-number, option-zero, option-one, option-long, option-is-one}
+use Rattle.frame.proofs.ValueNodes.{value-there, value-content, value-kind}
+use Rattle.frame.proofs.SchemaNodes.{schema-opened}
 use Rattle.buffer.specs.Built.{Built, Wrote}
 use Rattle.buffer.specs.declared.Answer.{Answer}
 use Rattle.buffer.specs.declared.Answer.the-variants.{Accepted, Refused}
-use Rattle.types.specs.declared.octets.Place.{Place}
 use Rattle.types.specs.declared.octets.Place.the-variants.{At, Nowhere}
-use Rattle.types.specs.Types.{Outcome, position, enumAt, orDefault, resolve-enum}
+use Rattle.types.specs.Types.{position, enumAt, orDefault, resolve-enum}
 use Rattle.types.specs.Contract.{encoded, onRead, onBoth}
 use Rattle.types.specs.Search.{readSymbols, placeFrom, placeIn, symbolOf, defaultOf, resolveEnumAt}
-use Rattle.types.proofs.NodeLaws.{not-reads, reads-first, reads-number, node-there, node-opened, node-kind, wrote-ok, wrote-no}
+use Rattle.types.proofs.NodeLaws.{wrote-ok, wrote-no}
 use Rattle.types.proofs.PartLaws.{content-Enum}
 
 -- ---- places
@@ -65,16 +64,11 @@ record Symbols (s : List ℕ) : Type 0 where
   all : readSymbols s ≡ some ((ss, d), r)
 
 symbols-are : (s : List ℕ) → Reads (readSymbols s) → Symbols s
-unfolding readSymbols _>>=_
-symbols-are s p = go (readList readText s) refl
-  where
-    next : (ss : List Text) (u : List ℕ) → readList readText s ≡ some (ss, u) → (o : Read (Option Text)) → readOption readText u ≡ o → Symbols s
-    next ss u e none f = absurd (not-reads _ (rw e (rw f)) p)
-    next ss u e (some y) f = record { ss = ss; u = u; d = y .0; r = y .1; list = e; option = f; all = rw e (rw f) }
-
-    go : (m : Read (List Text)) → readList readText s ≡ m → Symbols s
-    go none e = absurd (not-reads _ (rw e) p)
-    go (some x) e = next (x .0) (x .1) e (readOption readText (x .1)) refl
+unfolding readSymbols Reads
+symbols-are s p =
+    let w = bind-inv (readList readText s) _ (p .0, p .1 .0) (p .1 .1) in
+    let v = bind-inv (readOption readText (w .0 .1)) _ (p .0, p .1 .0) (w .1 .1) in
+    record { ss = w .0 .0; u = w .0 .1; d = v .0 .0; r = v .0 .1; list = w .1 .0; option = v .1 .0; all = p .1 .1 ∙ sym (v .1 .1) }
 
 pub symbols-list : (s : List ℕ) → Reads (readSymbols s) → Reads (readList readText s)
 unfolding readSymbols
@@ -101,42 +95,12 @@ module _ (s t o : List ℕ) (p : Reads (readSymbols s)) where
 
 -- ---- the flag and the default
 
-flag-is : (u : List ℕ) → Reads (readFlag u) → (0 < length u) × (readFlag u ≡ some (getD u 0 0, drop 1 u))
-unfolding readFlag _>>=_
-flag-is u p =
-    let h : 1 ≤ length u = reads-number 1 u (reads-first (readNumber 1 u) _ p) in
-    let n : readNumber 1 u ≡ some (getD u 0 0, drop 1 u) = readNumber-some 1 u h ∙ ap (λ (m : ℕ). some (m, drop 1 u)) (numberAt-one u 0 h) in
-    let e : readFlag u ≡ (if leb (getD u 0 0) 1 then some (getD u 0 0, drop 1 u) else none) = rw n in
-    (h, e ∙ go (leb (getD u 0 0) 1) (subst Reads e p))
-  where
-    go : (b : Bool) → Reads {A = ℕ} (if b then some (getD u 0 0, drop 1 u) else none) → _≡_ {A = Read ℕ} (if b then some (getD u 0 0, drop 1 u) else none) (some (getD u 0 0, drop 1 u))
-    go true q = refl
-    go false q = absurd (not-reads none refl q)
-
-module _ (u : List ℕ) (p : Reads (readOption readText u)) where
-  pub option-there : 0 < length u
-  unfolding readOption
-  option-there = flag-is u (reads-first (readFlag u) _ p) .0
-
-  option-opened : readOption readText u ≡ (if eqb (getD u 0 0) 0 then some (none, drop 1 u) else (readText (drop 1 u) >>= (λ x. some (some (x .0), x .1))))
-  unfolding readOption _>>=_
-  option-opened = rw (flag-is u (reads-first (readFlag u) _ p) .1)
-
-  option-none : getD u 0 0 ≡ 0 → readOption readText u ≡ some (none, drop 1 u)
-  option-none e = option-opened ∙ rw (eq-eqb (getD u 0 0) 0 e)
-
-  option-some : (getD u 0 0 ≡ 0 → ⊥) → readOption readText u ≡ (readText (drop 1 u) >>= (λ x. some (some (x .0), x .1)))
-  option-some f = option-opened ∙ rw (ne-eqb (getD u 0 0) 0 f)
-
 module _ (s : List ℕ) (at : ℕ) (p : Reads (readSymbols s)) (v : Spans (readList readText s) s at) where
   option-reads : Reads (readOption readText (drop at s))
   unfolding Spans Reads
   option-reads =
       let y = symbols-are s p in
-      let z : _≡_ {A = Read (List Text)} (some (y .ss, y .u)) (some (v .1 .0, drop at s)) = sym (y .list) ∙ v .1 .1 in
-      let x : _≡_ {A = List Text × List ℕ} (y .ss, y .u) (v .1 .0, drop at s) = cc in
-      let q : y .u ≡ drop at s = ap (λ (a : List Text × List ℕ). a .1) x in
-      (y .d, (y .r, ap (readOption readText) (sym q) ∙ y .option))
+      (y .d, (y .r, ap (readOption readText) (read-rest (sym (v .1 .1) ∙ y .list)) ∙ y .option))
 
   symbols-then : (d : Option Text) (r : List ℕ) → readOption readText (drop at s) ≡ some (d, r) → (b : List Text) × ((readList readText s ≡ some (b, drop at s)) × (readSymbols s ≡ some ((b, d), r)))
   unfolding Spans readSymbols _>>=_
@@ -146,24 +110,25 @@ module _ (s : List ℕ) (at : ℕ) (p : Reads (readSymbols s)) (v : Spans (readL
   flag-at = getD-drop at s 0 0 ∙ ap (λ (n : ℕ). getD s n 0) (add-zero at)
 
   pub flag-there : at < length s
-  flag-there = omega (arith, option-there (drop at s) option-reads, length-drop at s)
+  flag-there = omega (arith, option-long readText (drop at s) option-reads, length-drop at s)
 
   pub no-default : (o : List ℕ) → getD s at 0 ≡ 0 → Wrote (onRead (λ e. encoded (defaultOf e)) (readSymbols s)) o (Refused 15)
   unfolding onRead defaultOf orDefault encoded
   no-default o e =
-      let q = symbols-then none _ (option-none (drop at s) option-reads (flag-at ∙ e)) in
+      let q = symbols-then none _ (option-zero readText (drop at s) (option-long readText (drop at s) option-reads) (flag-at ∙ e)) in
       wrote-no _ o 15 (rw (q .1 .1))
 
   module _ (f : getD s at 0 ≡ 0 → ⊥) where
-    some-opened : readOption readText (drop at s) ≡ (readText (drop (at + 1) s) >>= (λ x. some (some (x .0), x .1)))
-    some-opened = option-some (drop at s) option-reads (λ e. f (sym flag-at ∙ e)) ∙ ap (λ (l : List ℕ). readText l >>= (λ x. some (some (x .0), x .1))) (drop-drop 1 at s)
+    some-opened : readOption readText (drop at s) ≡ mapRead some (readText (drop (at + 1) s))
+    some-opened =
+        option-one readText (drop at s) (option-long readText (drop at s) option-reads) (option-is-one readText (drop at s) option-reads (λ e. f (sym flag-at ∙ e)))
+        ∙ ap (λ (l : List ℕ). mapRead some (readText l)) (drop-drop 1 at s)
 
     default-text : Reads (readText (drop (at + 1) s))
     default-text = reads-first (readText (drop (at + 1) s)) _ (subst Reads some-opened option-reads)
 
     pub default-counted : Reads (readCounted (drop (at + 1) s))
-    unfolding Reads
-    default-counted = let q = default-text in (q .0, (q .1 .0, readText-counted (drop (at + 1) s) (q .0) (q .1 .0) (q .1 .1) .0))
+    default-counted = reads-text (drop (at + 1) s) default-text
 
     module _ (t r : List ℕ) (e : readCounted (drop (at + 1) s) ≡ some (t, r)) where
       default-is : readOption readText (drop at s) ≡ some (some t, r)
@@ -195,31 +160,23 @@ record EnumSchema (ds : ℕ) (s : List ℕ) : Type 0 where
   ss : List Text
   d : Option Text
   r : List ℕ
-  there : 0 < length s
   symbols : readSymbols (drop 1 s) ≡ some ((ss, d), r)
   schema : readSchema ds s ≡ some (Schema.Enum ss d, r)
 
 enum-schema : (ds : ℕ) (s : List ℕ) → Reads (readSchema ds s) → getD s 0 0 ≡ Kind.Enum → EnumSchema ds s
-unfolding readSchema readSchemaContent readSymbols _>>=_
-enum-schema zero s p e = absurd (not-reads _ refl p)
-enum-schema (suc n) [] p e = absurd (not-reads _ refl p)
-enum-schema (suc n) (k ∷ s) p e = go (readList readText s) refl
-  where
-    opened : readSchema (suc n) (k ∷ s) ≡ readSchemaContent (readSchema n) 12 s
-    opened = ap (λ (j : ℕ). readSchemaContent (readSchema n) j s) e
-
-    next : (ss : List Text) (u : List ℕ) → readList readText s ≡ some (ss, u) → (o : Read (Option Text)) → readOption readText u ≡ o → EnumSchema (suc n) (k ∷ s)
-    next ss u e none f = absurd (not-reads _ (opened ∙ rw e (rw f)) p)
-    next ss u e (some y) f = record { ss = ss; d = y .0; r = y .1; there = omega arith; symbols = rw e (rw f); schema = opened ∙ rw e (rw f) }
-
-    go : (m : Read (List Text)) → readList readText s ≡ m → EnumSchema (suc n) (k ∷ s)
-    go none e = absurd (not-reads _ (opened ∙ rw e) p)
-    go (some x) e = next (x .0) (x .1) e (readOption readText (x .1)) refl
+unfolding readSchemaContent readSymbols Reads
+enum-schema ds s p e =
+    let w = bind-inv (readList readText (drop 1 s)) _ (p .0, p .1 .0) (sym (schema-opened ds s p 12 e) ∙ p .1 .1) in
+    let v = map-inv (λ q. Schema.Enum (w .0 .0) q) (readOption readText (w .0 .1)) (p .0) (p .1 .0) (w .1 .1) in
+    record {
+      ss = w .0 .0;
+      d = v .0;
+      r = p .1 .0;
+      symbols = bind-some (readList readText (drop 1 s)) _ (w .0 .0) (w .0 .1) (w .1 .0) ∙ bind-some (readOption readText (w .0 .1)) _ (v .0) (p .1 .0) (v .1 .0);
+      schema = p .1 .1 ∙ ap (λ t. some (t, p .1 .0)) (v .1 .1);
+    }
 
 module _ (ds : ℕ) (s : List ℕ) (p : Reads (readSchema ds s)) (h : getD s 0 0 ≡ Kind.Enum) where
-  pub schema-there : 0 < length s
-  schema-there = enum-schema ds s p h .there
-
   pub schema-symbols : Reads (readSymbols (drop 1 s))
   unfolding Reads
   schema-symbols = let y = enum-schema ds s p h in ((y .ss, y .d), (y .r, y .symbols))
@@ -239,7 +196,7 @@ module _ (ds : ℕ) (s : List ℕ) (p : Reads (readSchema ds s)) (h : getD s 0 0
   unfolding onRead onBoth resolveEnumAt resolve-enum encoded Reads
   enum-other d v o q b f g =
       let y = enum-schema ds s p h in
-      let k : kindOf (q .0) ≡ getD v 0 0 = node-kind d v b (q .0) (q .1 .0) (q .1 .1) in
+      let k : kindOf (q .0) ≡ getD v 0 0 = value-kind d v b (q .0) (q .1 .0) (q .1 .1) in
       wrote-no _ o 6 (rw (y .schema) (rw (q .1 .1) (rw (k, ne-eqb (getD v 0 0) 12 f, ne-eqb (getD v 0 0) 7 g))))
 
 pub string-symbol : (t : Text) (ss : List Text) (q : Option Text) → resolve-enum ss q (Value.Octets Kind.String t) ≡ symbolOf t (ss, q)
@@ -253,25 +210,23 @@ enum-symbol i t ss q = refl
 -- ---- an Enum value's node
 
 module _ (d : ℕ) (v : List ℕ) (p : Reads (readValue d v)) (h : getD v 0 0 ≡ Kind.Enum) where
-  symbol-opened : readValue d v ≡ (readNumber 4 (drop 1 v) >>= (λ x. readText (x .1) >>= (λ y. some (Value.Enum (x .0) (y .0), y .1))))
+  symbol-opened : readValue d v ≡ (readNumber 4 (drop 1 v) >>= (λ x. mapRead (Value.Enum (x .0)) (readText (x .1))))
   unfolding readContent
-  symbol-opened = let q = node-opened d v p 12 h in q .1 ∙ ap (λ (c : Content). readContent (q .0) 12 c (drop 1 v)) content-Enum
+  symbol-opened = value-content d v p Kind.Enum symbol content-Enum h
 
   pub symbol-there : 5 ≤ length v
-  symbol-there = omega (arith, reads-number 4 (drop 1 v) (reads-first (readNumber 4 (drop 1 v)) _ (subst Reads symbol-opened p)), length-drop 1 v, node-there d v p)
+  symbol-there = omega (arith, reads-number 4 (drop 1 v) (reads-first (readNumber 4 (drop 1 v)) _ (subst Reads symbol-opened p)), length-drop 1 v, value-there d v p .1)
 
-  symbol-text : readValue d v ≡ (readText (drop 5 v) >>= (λ y. some (Value.Enum (numberAt v 1 4) (y .0), y .1)))
-  unfolding _>>=_
+  symbol-text : readValue d v ≡ mapRead (Value.Enum (numberAt v 1 4)) (readText (drop 5 v))
   symbol-text =
       let l : 4 ≤ length (drop 1 v) = omega (arith, symbol-there, length-drop 1 v) in
-      symbol-opened ∙ rw (readNumber-some 4 (drop 1 v) l, drop-drop 4 1 v)
+      symbol-opened ∙ bind-some (readNumber 4 (drop 1 v)) _ _ _ (readNumber-some 4 (drop 1 v) l) ∙ ap (λ (l : List ℕ). mapRead (Value.Enum (numberAt v 1 4)) (readText l)) (drop-drop 4 1 v)
 
   text-reads : Reads (readText (drop 5 v))
   text-reads = reads-first (readText (drop 5 v)) _ (subst Reads symbol-text p)
 
   pub symbol-counted : Reads (readCounted (drop 5 v))
-  unfolding Reads
-  symbol-counted = let q = text-reads in (q .0, (q .1 .0, readText-counted (drop 5 v) (q .0) (q .1 .0) (q .1 .1) .0))
+  symbol-counted = reads-text (drop 5 v) text-reads
 
   pub symbol-node : (t r : List ℕ) → readCounted (drop 5 v) ≡ some (t, r) → readValue d v ≡ some (Value.Enum (numberAt v 1 4) t, r)
   unfolding Reads _>>=_

@@ -1,31 +1,30 @@
 -- What the value node at the front of a part is, for kinds that hold bytes, and the answers for a node that becomes bytes.
-use Prim.Native.Nat.{ℕ, zero, suc, _+_, _-_, _*_, _/_, _%_, _^_, _≤_, _<_, min}
+use Prim.Native.Nat.{ℕ, _+_, _/_, _%_, _^_, _≤_, _<_, min}
 use mathlib.Core.Path.{_≡_, refl, sym, ap, _∙_, subst}
 use mathlib.Core.List.{List, [], _∷_, _++_}
-use mathlib.Core.Option.{Option, none, some}
-use mathlib.Core.Bool.{Bool, true, false}
+use mathlib.Core.Option.{some}
+use mathlib.Core.Bool.{true}
 use native.Mathlib.Omega.{arith}
-use lib.Dec.{leb}
 use lib.ListN.{length, getD, take, drop, length-drop}
 use lib.Seq.{drop-drop}
-use borrow.Author.Tests.{leb-true, leb-false}
-use Rattle.base.specs.Base.{Result, ok, no}
-use Rattle.number.specs.Number.{bytesOf, numberAt}
+use Rattle.base.specs.Base.{ok, no}
+use Rattle.number.specs.Number.{bytesOf}
 use Rattle.utf8.specs.Utf8.{isUtf8}
-use Rattle.text.specs.Text.{Text}
-use Rattle.text.specs.Read.{Read, _>>=_, readBytes, readNumber, readCounted, readText}
+use Rattle.text.specs.Read.{Read, _>>=_, readBytes, readCounted, readText}
 use Rattle.text.specs.Measured.{Reads}
-use Rattle.text.proofs.ReadLaws.{readBytes-some, readBytes-none, readNumber-some, readText-counted}
+use Rattle.text.proofs.ReadLaws.{readBytes-some, readText-counted, reads-text}
 use Rattle.frame.specs.Kind
 use Rattle.frame.specs.Tree.{Value}
-use Rattle.frame.specs.ValueFrame.{Content, counted, text, plain, array, symbol, table, content, readContent, readValue, writeText, writeOctets, encodeValue}
+use Rattle.frame.specs.ValueFrame.{counted, text, plain, array, symbol, table, content, readContent, readValue, writeText, writeOctets, encodeValue}
+use Rattle.frame.proofs.Reading.{read-what, reads-eq, reads-first, reads-bytes}
+use Rattle.frame.proofs.ValueNodes.{value-there, value-content}
 use Rattle.buffer.specs.Built.{Built, Wrote}
 use Rattle.buffer.proofs.BuiltLaws.{built-front}
 use Rattle.buffer.specs.declared.Answer.{Answer}
 use Rattle.buffer.specs.declared.Answer.the-variants.{Accepted, Refused}
 use Rattle.types.specs.Types.{Outcome}
 use Rattle.types.specs.Contract.{encoded, onRead, Holds}
-use Rattle.types.proofs.NodeLaws.{not-reads, reads-first, reads-number, node-there, node-opened, wrote-ok, wrote-no}
+use Rattle.types.proofs.NodeLaws.{wrote-ok}
 
 -- ---- the table at the kinds that hold bytes
 
@@ -111,15 +110,6 @@ built-enum i t o r h l w =
 pub built-points : (b x rest o : List ℕ) (n r : ℕ) → x ≡ b → n ≡ length b → r ≡ min n 65536 → o ≡ x ++ rest → Built b o r
 built-points b x rest o n r e f g h = built-front b rest o r (g ∙ ap (λ (m : ℕ). min m 65536) f) (h ∙ ap (λ (y : List ℕ). y ++ rest) e)
 
--- ---- readers
-
-pub reads-bytes : (n : ℕ) (s : List ℕ) → Reads (readBytes n s) → n ≤ length s
-reads-bytes n s p = go (leb n (length s)) refl
-  where
-    go : (b : Bool) → leb n (length s) ≡ b → n ≤ length s
-    go true e = leb-true n (length s) e
-    go false e = absurd (not-reads _ (readBytes-none n s (leb-false n (length s) e)) p)
-
 -- the content of a node, found behind its kind
 pub holds-content : (v t : List ℕ) → 0 < length v
     → (readCounted (drop 1 v) ≡ some (t, drop (2 + length t) (drop 1 v))) × ((2 + length t ≤ length (drop 1 v)) × (length t < 65536)) → Holds v t
@@ -131,35 +121,24 @@ holds-content v t g h =
 -- ---- nodes
 
 module _ (d : ℕ) (s : List ℕ) (p : Reads (readValue d s)) where
-  opened : (k : ℕ) (c : Content) → content k ≡ c → getD s 0 0 ≡ k → (node : (List ℕ → Read Value)) × (readValue d s ≡ readContent node k c (drop 1 s))
-  opened k c e h = let q = node-opened d s p k h in (q .0, q .1 ∙ ap (λ y. readContent (q .0) k y (drop 1 s)) e)
-
-  reads-opened : (x : Read Value) → readValue d s ≡ x → Reads x
-  reads-opened x e = subst (λ y. Reads y) e p
-
   -- a length and bytes
   pub counted-reads : (k : ℕ) → content k ≡ counted → getD s 0 0 ≡ k → Reads (readCounted (drop 1 s))
   unfolding readContent
   counted-reads k e h =
-      let q = opened k counted e h in
-      reads-first (readCounted (drop 1 s)) _ (reads-opened _ (q .1))
+      reads-first (readCounted (drop 1 s)) _ (reads-eq _ _ (value-content d s p k counted e h) p)
 
   pub counted-node : (k : ℕ) (t : List ℕ) → content k ≡ counted → getD s 0 0 ≡ k → Holds s t → readValue d s ≡ some (Value.Octets k t, drop (3 + length t) s)
   unfolding readContent _>>=_
-  counted-node k t e h w = opened k counted e h .1 ∙ rw (w .counted)
+  counted-node k t e h w = value-content d s p k counted e h ∙ rw (w .counted)
 
   -- a length and UTF-8
   pub text-reads : (k : ℕ) → content k ≡ text → getD s 0 0 ≡ k → Reads (readText (drop 1 s))
   unfolding readContent
   text-reads k e h =
-      let q = opened k text e h in
-      reads-first (readText (drop 1 s)) _ (reads-opened _ (q .1))
+      reads-first (readText (drop 1 s)) _ (reads-eq _ _ (value-content d s p k text e h) p)
 
   pub text-reads-counted : (k : ℕ) → content k ≡ text → getD s 0 0 ≡ k → Reads (readCounted (drop 1 s))
-  unfolding Reads
-  text-reads-counted k e h =
-      let f = text-reads k e h in
-      (f .0, (f .1 .0, readText-counted (drop 1 s) (f .0) (f .1 .0) (f .1 .1) .0))
+  text-reads-counted k e h = reads-text (drop 1 s) (text-reads k e h)
 
   pub text-node : (k : ℕ) (t : List ℕ) → content k ≡ text → getD s 0 0 ≡ k → Holds s t
       → (readValue d s ≡ some (Value.Octets k t, drop (3 + length t) s)) × (isUtf8 t ≡ true)
@@ -168,19 +147,17 @@ module _ (d : ℕ) (s : List ℕ) (p : Reads (readValue d s)) where
       let f = text-reads k e h in
       let c = readText-counted (drop 1 s) (f .0) (f .1 .0) (f .1 .1) in
       let z : _≡_ {A = Read (List ℕ)} (some (f .0, f .1 .0)) (some (t, drop (3 + length t) s)) = sym (c .0) ∙ w .counted in
-      let y : _≡_ {A = List ℕ × List ℕ} (f .0, f .1 .0) (t, drop (3 + length t) s) = cc in
-      let x : f .0 ≡ t = ap (λ (a : List ℕ × List ℕ). a .0) y in
-      (opened k text e h .1 ∙ rw (f .1 .1 ∙ z), sym (ap isUtf8 x) ∙ c .1)
+      (value-content d s p k text e h ∙ rw (f .1 .1 ∙ z), sym (ap isUtf8 (read-what z)) ∙ c .1)
 
   -- as many bytes as the kind has
   pub plain-node : (k n : ℕ) → content k ≡ plain n → getD s 0 0 ≡ k
       → (1 + n ≤ length s) × (readValue d s ≡ some (Value.Octets k (take n (drop 1 s)), drop (1 + n) s))
   unfolding readContent _>>=_
   plain-node k n e h =
-      let q = opened k (plain n) e h in
-      let l : n ≤ length (drop 1 s) = reads-bytes n (drop 1 s) (reads-first (readBytes n (drop 1 s)) _ (reads-opened _ (q .1))) in
-      let g : 0 < length s = node-there d s p in
-      (omega (arith, length-drop 1 s), q .1 ∙ rw (readBytes-some n (drop 1 s) l, drop-drop n 1 s))
+      let q = value-content d s p k (plain n) e h in
+      let l : n ≤ length (drop 1 s) = reads-bytes n (drop 1 s) (reads-first (readBytes n (drop 1 s)) _ (reads-eq _ _ q p)) in
+      let g : 0 < length s = value-there d s p .1 in
+      (omega (arith, length-drop 1 s), q ∙ rw (readBytes-some n (drop 1 s) l, drop-drop n 1 s))
 
 -- ---- answers
 

@@ -1,30 +1,29 @@
 -- Texts one after another: one more of them, and the search for the first that is the same as a given one.
-use Prim.Native.Nat.{ℕ, zero, suc, _+_, _-_, _≤_, _<_}
+use Prim.Native.Nat.{ℕ, suc, _+_, _-_, _≤_, _<_}
 use mathlib.Core.Path.{_≡_, refl, sym, ap, _∙_, subst}
-use mathlib.Core.List.{List, [], _∷_, _++_}
+use mathlib.Core.List.{List, _∷_}
 use mathlib.Core.Option.{Option, none, some}
-use mathlib.Core.Bool.{Bool, true, false, _&&_}
+use mathlib.Core.Bool.{true, false}
 use native.Mathlib.Omega.{arith}
 use native.Mathlib.Numerals.{add-one}
 use native.Mathlib.Nat.{add-zero}
 use borrow.Author.Tests.{eq-eqb, ne-eqb}
-use lib.Dec.{eqb}
 use lib.ListN.{length, getD, take, drop, length-drop}
 use lib.Seq.{drop-drop, length-take-le, getD-take, getD-drop}
-use Rattle.base.specs.Base.{if_then_else_}
-use Rattle.number.specs.Number.{bigEndian, numberAt}
+use Rattle.number.specs.Number.{numberAt}
 use Rattle.text.specs.Text.{Text, same}
-use Rattle.text.specs.Read.{Read, _>>=_, readNumber, readCounted, readText}
+use Rattle.text.specs.Read.{Read, _>>=_, readText}
 use Rattle.text.specs.Measured.{Reads}
-use Rattle.text.proofs.TextLaws.{same-at, same-end, same-length}
-use Rattle.text.proofs.ReadLaws.{readNumber-some, readText-counted, reads-text, reads-counted, Counted}
+use Rattle.text.proofs.TextLaws.{same-at, same-end}
+use Rattle.text.proofs.ReadLaws.{readText-counted, reads-text, reads-counted, Counted}
 use Rattle.frame.specs.Readers.{readMany, readList}
-use Rattle.frame.specs.Checks.{Spans}
+use Rattle.frame.proofs.Reading.{bind-some, reads-eq, reads-first}
+use Rattle.frame.proofs.Measuring.{spans-some}
+use Rattle.frame.proofs.Counting.{many-suc, list-many, reads-list, Walking, walking-first, walking-step}
 use Rattle.types.specs.declared.octets.Place.{Place}
 use Rattle.types.specs.declared.octets.Place.the-variants.{At, Nowhere}
 use Rattle.types.specs.Types.{position, later}
 use Rattle.types.specs.Search.{placeFrom, placeIn}
-use Rattle.types.proofs.NodeLaws.{not-reads, reads-first, reads-number}
 
 -- ---- one text of many
 
@@ -35,15 +34,13 @@ pub record NextText (s : List ℕ) (at n left rem : ℕ) : Type 0 where
   pub joins : readMany readText left (drop at s) ≡ (readMany readText rem (drop (at + 2 + n) s) >>= (λ x. some (take n (drop (at + 2) s) ∷ x .0, x .1)))
 
 module _ (s : List ℕ) (at : ℕ) (h : at ≤ length s) where
-  first-text : (l : ℕ) → Reads (readMany readText (suc l) (drop at s)) → Reads (readText (drop at s))
-  unfolding readMany
-  first-text l p = reads-first (readText (drop at s)) _ p
+  first-text : (left : ℕ) → 0 < left → Reads (readMany readText left (drop at s)) → Reads (readText (drop at s))
+  first-text left g p = reads-first (readText (drop at s)) _ (reads-eq _ _ (many-suc readText left (drop at s) g) p)
 
   pub text-two : (left : ℕ) → 0 < left → Reads (readMany readText left (drop at s)) → at + 2 ≤ length s
-  text-two zero g p = absurd (omega arith)
-  text-two (suc l) g p = omega (arith, reads-counted (drop at s) (reads-text (drop at s) (first-text l p)) .two, length-drop at s)
+  text-two left g p = omega (arith, reads-counted (drop at s) (reads-text (drop at s) (first-text left g p)) .two, length-drop at s)
 
-  text-is : Reads (readText (drop at s)) → (at + 2 + numberAt s at 2 ≤ length s) × (readText (drop at s) ≡ some (take (numberAt s at 2) (drop (at + 2) s), drop (at + 2 + numberAt s at 2) s))
+  pub text-is : Reads (readText (drop at s)) → (at + 2 + numberAt s at 2 ≤ length s) × (readText (drop at s) ≡ some (take (numberAt s at 2) (drop (at + 2) s), drop (at + 2 + numberAt s at 2) s))
   unfolding Reads
   text-is f =
       let n = numberAt s at 2 in
@@ -54,25 +51,12 @@ module _ (s : List ℕ) (at : ℕ) (h : at ≤ length s) where
       let b : drop (2 + n) (drop at s) ≡ drop (at + 2 + n) s = drop-drop (2 + n) at s ∙ ap (λ (m : ℕ). drop m s) i in
       (omega (arith, k .two, k .room, length-drop at s), f .1 .1 ∙ sym (c .0) ∙ k .is ∙ ap (λ (x : List ℕ). some (take n x, drop (2 + n) (drop at s))) a ∙ ap (λ (x : List ℕ). some (take n (drop (at + 2) s), x)) b)
 
-  many-suc : (l n : ℕ) → n ≡ numberAt s at 2 → Reads (readMany readText (suc l) (drop at s)) → NextText s at n (suc l) l
-  unfolding readMany _>>=_
-  many-suc l n e p =
-      let t = text-is (first-text l p) in
-      let i : at + 2 + n ≤ length s = rw e (t .0) in
-      let q : readText (drop at s) ≡ some (take n (drop (at + 2) s), drop (at + 2 + n) s) = rw e (t .1) in
-      let j : readMany readText (suc l) (drop at s) ≡ (readMany readText l (drop (at + 2 + n) s) >>= (λ x. some (take n (drop (at + 2) s) ∷ x .0, x .1))) = rw q in
-      record { inside = i; rest = reads-first (readMany readText l (drop (at + 2 + n) s)) _ (subst Reads j p); joins = j }
-
   pub next-text : (left n : ℕ) → 0 < left → n ≡ numberAt s at 2 → Reads (readMany readText left (drop at s)) → NextText s at n left (left - 1)
-  next-text zero n g e p = absurd (omega arith)
-  next-text (suc l) n g e p = let k : l ≡ suc l - 1 = omega arith in subst (λ (m : ℕ). NextText s at n (suc l) m) k (many-suc l n e p)
-
--- a count and texts
-pub list-opened : (s : List ℕ) → Reads (readList readText s) → (2 ≤ length s) × (readList readText s ≡ readMany readText (numberAt s 0 2) (drop 2 s))
-unfolding readList _>>=_
-list-opened s p =
-    let h : 2 ≤ length s = reads-number 2 s (reads-first (readNumber 2 s) _ p) in
-    (h, rw (readNumber-some 2 s h))
+  next-text left n g e p =
+      let t = text-is (first-text left g p) in
+      let q : readText (drop at s) ≡ some (take n (drop (at + 2) s), drop (at + 2 + n) s) = rw e (t .1) in
+      let j = many-suc readText left (drop at s) g ∙ bind-some (readText (drop at s)) _ _ _ q in
+      record { inside = rw e (t .0); rest = reads-first (readMany readText (left - 1) (drop (at + 2 + n) s)) _ (reads-eq _ _ j p); joins = j }
 
 -- ---- the search
 
@@ -101,9 +85,9 @@ module _ (s x : List ℕ) where
 
   pub search-starts : (left : ℕ) → Reads (readList readText s) → left ≡ numberAt s 0 2 → left < 65536 → Searching left 2 0
   search-starts left p e l =
-      let o = list-opened s p in
-      let q : readList readText s ≡ readMany readText left (drop 2 s) = rw e (o .1) in
-      (o .0, (omega arith, (subst Reads q p, ap (placeIn 0 x) (sym q))))
+      let h = reads-list readText s p in
+      let q : readList readText s ≡ readMany readText left (drop 2 s) = rw e (list-many readText s h) in
+      (h, (omega arith, (subst Reads q p, ap (placeIn 0 x) (sym q))))
 
   module _ (left at i n : ℕ) (v : Searching left at i) (g : 0 < left) (e : n ≡ numberAt s at 2) where
     next : NextText s at n left (left - 1)
@@ -143,24 +127,18 @@ module _ (t x : List ℕ) (j : ℕ) (v : same (drop j t) (drop j x) ≡ same t x
 
 -- ---- how many bytes texts take
 
--- what is read from here on ends where the whole ends
-abbrev pub Passing : List ℕ → ℕ → ℕ → Type 0
-Passing s left at =
-    (at ≤ length s) × (Reads (readMany readText left (drop at s)) × ((a : List Text) (r : List ℕ) → readMany readText left (drop at s) ≡ some (a, r) → (b : List Text) × (readList readText s ≡ some (b, r))))
+-- one text more is passed
+module _ (s : List ℕ) (at left n : ℕ) (w : Walking readText s at left) (p : Reads (readList readText s)) (g : 0 < left) (e : n ≡ numberAt s at 2) where
+  text-here : (at + 2 + numberAt s at 2 ≤ length s) × (readText (drop at s) ≡ some (take (numberAt s at 2) (drop (at + 2) s), drop (at + 2 + numberAt s at 2) s))
+  text-here = text-is s at (w .inside) (walking-first readText s at left w p g)
 
-module _ (s : List ℕ) where
-  pub passing-starts : (left : ℕ) → Reads (readList readText s) → left ≡ numberAt s 0 2 → Passing s left 2
-  passing-starts left p e =
-      let o = list-opened s p in
-      let q : readList readText s ≡ readMany readText left (drop 2 s) = rw e (o .1) in
-      (o .0, (subst Reads q p, λ a r h. (a, q ∙ h)))
+  pub passed-inside : at + 2 + n ≤ length s
+  passed-inside = rw e (text-here .0)
 
-  pub passing-goes : (left at n : ℕ) → Passing s left at → 0 < left → n ≡ numberAt s at 2 → Passing s (left - 1) (at + 2 + n)
-  unfolding _>>=_
-  passing-goes left at n v g e =
-      let k = next-text s at (v .0) left n g e (v .1 .0) in
-      (k .inside, (k .rest, λ a r h. v .1 .1 (take n (drop (at + 2) s) ∷ a) r (k .joins ∙ rw h)))
-
-  pub passing-ends : (left at : ℕ) → Passing s left at → left ≡ 0 → Spans (readList readText s) s at
-  unfolding Spans readMany
-  passing-ends left at v e = (v .0, (v .1 .1 [] (drop at s) (rw e)))
+  pub passed : Walking readText s (at + 2 + n) (left - 1)
+  passed =
+      let i : at + (2 + n) ≡ at + 2 + n = omega arith in
+      let t : readText (drop at s) ≡ some (take n (drop (at + 2) s), drop (at + 2 + n) s) = rw e (text-here .1) in
+      let q : readText (drop at s) ≡ some (take n (drop (at + 2) s), drop (2 + n) (drop at s)) = t ∙ ap (λ (r : List ℕ). some (take n (drop (at + 2) s), r)) (ap (λ (m : ℕ). drop m s) (sym i) ∙ sym (drop-drop (2 + n) at s)) in
+      subst (λ (m : ℕ). Walking readText s m (left - 1)) i
+      (walking-step readText s at left w (2 + n) g (spans-some (readText (drop at s)) (drop at s) (2 + n) _ (omega (arith, passed-inside, length-drop at s)) q))

@@ -3,8 +3,9 @@ use mathlib.Core.Path.{_≡_, refl, sym, _∙_}
 use Prim.Native.Nat.{_+_, _-_, _≤_}
 use lib.ListN.{length, take, drop}
 use Rattle.text.specs.Text.{same}
-use Rattle.types.proofs.SymbolLaws.{Searching, search-starts, text-two, list-opened, search-inside, text-length, search-goes, search-found, search-ends, text-at, all-same, one-differs, one-same}
+use Rattle.types.proofs.SymbolLaws.{Searching, search-starts, text-two, search-inside, text-length, search-goes, search-found, search-ends, text-at, all-same, one-differs, one-same}
 use Rattle.text.proofs.TextLaws.{same-length}
+use Rattle.frame.proofs.Counting.{reads-list}
 use Rattle.types.proofs.octets.position.Statement.{statement}
 use Rattle.types.proofs.octets.position.Tie as tie
 
@@ -21,7 +22,7 @@ abbrev μ-search : tie.MeasureT-search
 μ-search s x left₀ at₀ i₀ left at i = left
 
 read2-requires : tie.Need-read2-requires Inv-loop μ-loop Inv-search μ-search
-read2-requires c κs = omega (arith, list-opened (c .before .before .args .s .now) (c .before .before .pre) .0)
+read2-requires c κs = omega (arith, reads-list _ (c .before .before .args .s .now) (c .before .before .pre))
 
 search-holds : tie.Need-search-holds Inv-loop μ-loop Inv-search μ-search
 search-holds c = search-starts (c .before .before .before .args .s .now) (c .before .before .before .args .x .now) (c .read2 .result) (c .before .before .before .pre) (c .read2 .ensures) (omega (arith, c .read2 .ok))

@@ -2,8 +2,9 @@ use native.Mathlib.Omega.{arith}
 use mathlib.Core.Path.{refl, sym, _∙_}
 use Rattle.base.specs.Base.{if_then_else_}
 use Rattle.number.proofs.Laws.{getD-allBytes}
+use Rattle.frame.proofs.ValueNodes.{value-there}
 use Rattle.types.specs.Types.{resolve-decimal}
-use Rattle.types.proofs.NodeLaws.{node-there, kind-refused}
+use Rattle.types.proofs.NodeLaws.{kind-refused}
 use Rattle.types.proofs.PartLaws.{content-Bytes, content-String, content-Fixed, content-Decimal, counted-reads, text-reads-counted, text-node, on-counted, on-text, all-refused}
 use Rattle.types.proofs.OctetLaws.{wrote-is}
 use mathlib.Core.Option.{some, none}
@@ -22,7 +23,7 @@ returns-2 : tie.Need-returns-2
 returns-2 c = all-refused (resolve-decimal (c .before .before .before .before .before .args .precision) (c .before .before .before .before .before .args .scale) (if c .before .before .before .before .before .args .sized then some (c .before .before .before .before .before .args .size) else none)) _ _ (c .before .before .before .before .before .pre) 13 _ (λ w. decimal-size (c .before .before .before .before .before .args .precision) (c .before .before .before .before .before .args .scale) (if c .before .before .before .before .before .args .sized then some (c .before .before .before .before .before .args .size) else none) (c .before .before .if1 .left) w (sym (c .before .fixed-too-short .ensures) ∙ c .if2 .taken))
 
 shared-slice-read-if3 : tie.Need-shared-slice-read-if3
-shared-slice-read-if3 c = node-there _ _ (c .before .before .before .before .before .before .pre)
+shared-slice-read-if3 c = value-there _ _ (c .before .before .before .before .before .before .pre) .1
 
 content-requires : tie.Need-content-requires
 content-requires c κs = counted-reads _ _ (c .before .before .before .before .before .before .before .pre) 14 content-Decimal (c .if3 .taken)
@@ -37,7 +38,7 @@ returns-3 : tie.Need-returns-3
 returns-3 c = on-counted (resolve-decimal (c .before .before .before .before .before .before .before .before .before .before .before .before .args .precision) (c .before .before .before .before .before .before .before .before .before .before .before .before .args .scale) (if c .before .before .before .before .before .before .before .before .before .before .before .before .args .sized then some (c .before .before .before .before .before .before .before .before .before .before .before .before .args .size) else none)) _ _ (c .before .before .before .before .before .before .before .before .before .before .before .before .pre) 14 _ _ _ content-Decimal (c .before .before .before .before .before .if3 .taken) (c .before .before .before .before .content .ensures) (wrote-is _ _ _ _ (decimal-bytes (c .before .before .before .before .before .before .before .before .before .before .before .before .args .precision) (c .before .before .before .before .before .before .before .before .before .before .before .before .args .scale) (if c .before .before .before .before .before .before .before .before .before .before .before .before .args .sized then some (c .before .before .before .before .before .before .before .before .before .before .before .before .args .size) else none) (c .before .before .before .before .before .before .before .before .before .if1 .left) (sym (c .before .before .before .before .before .before .before .before .fixed-too-short .ensures) ∙ c .before .before .before .before .before .before .before .if2 .left) 14 _ refl) (c .before .before .decimal-of .ensures))
 
 shared-slice-read-if4 : tie.Need-shared-slice-read-if4
-shared-slice-read-if4 c = node-there _ _ (c .before .before .before .before .before .before .before .before .pre)
+shared-slice-read-if4 c = value-there _ _ (c .before .before .before .before .before .before .before .before .pre) .1
 
 content-requires-2 : tie.Need-content-requires-2
 content-requires-2 c κs = counted-reads _ _ (c .before .before .before .before .before .before .before .before .before .pre) 13 content-Fixed (c .if4 .taken)
@@ -52,7 +53,7 @@ returns-4 : tie.Need-returns-4
 returns-4 c = on-counted (resolve-decimal (c .before .before .before .before .before .before .before .before .before .before .before .before .before .before .args .precision) (c .before .before .before .before .before .before .before .before .before .before .before .before .before .before .args .scale) (if c .before .before .before .before .before .before .before .before .before .before .before .before .before .before .args .sized then some (c .before .before .before .before .before .before .before .before .before .before .before .before .before .before .args .size) else none)) _ _ (c .before .before .before .before .before .before .before .before .before .before .before .before .before .before .pre) 13 _ _ _ content-Fixed (c .before .before .before .before .before .if4 .taken) (c .before .before .before .before .content2 .ensures) (wrote-is _ _ _ _ (decimal-bytes (c .before .before .before .before .before .before .before .before .before .before .before .before .before .before .args .precision) (c .before .before .before .before .before .before .before .before .before .before .before .before .before .before .args .scale) (if c .before .before .before .before .before .before .before .before .before .before .before .before .before .before .args .sized then some (c .before .before .before .before .before .before .before .before .before .before .before .before .before .before .args .size) else none) (c .before .before .before .before .before .before .before .before .before .before .before .if1 .left) (sym (c .before .before .before .before .before .before .before .before .before .before .fixed-too-short .ensures) ∙ c .before .before .before .before .before .before .before .before .before .if2 .left) 13 _ refl) (c .before .before .decimal-of2 .ensures))
 
 shared-slice-read-if5 : tie.Need-shared-slice-read-if5
-shared-slice-read-if5 c = node-there _ _ (c .before .before .before .before .before .before .before .before .before .before .pre)
+shared-slice-read-if5 c = value-there _ _ (c .before .before .before .before .before .before .before .before .before .before .pre) .1
 
 content-requires-3 : tie.Need-content-requires-3
 content-requires-3 c κs = counted-reads _ _ (c .before .before .before .before .before .before .before .before .before .before .before .pre) 6 content-Bytes (c .if5 .taken)
@@ -67,7 +68,7 @@ returns-5 : tie.Need-returns-5
 returns-5 c = on-counted (resolve-decimal (c .before .before .before .before .before .before .before .before .before .before .before .before .before .before .before .before .args .precision) (c .before .before .before .before .before .before .before .before .before .before .before .before .before .before .before .before .args .scale) (if c .before .before .before .before .before .before .before .before .before .before .before .before .before .before .before .before .args .sized then some (c .before .before .before .before .before .before .before .before .before .before .before .before .before .before .before .before .args .size) else none)) _ _ (c .before .before .before .before .before .before .before .before .before .before .before .before .before .before .before .before .pre) 6 _ _ _ content-Bytes (c .before .before .before .before .before .if5 .taken) (c .before .before .before .before .content3 .ensures) (wrote-is _ _ _ _ (decimal-bytes (c .before .before .before .before .before .before .before .before .before .before .before .before .before .before .before .before .args .precision) (c .before .before .before .before .before .before .before .before .before .before .before .before .before .before .before .before .args .scale) (if c .before .before .before .before .before .before .before .before .before .before .before .before .before .before .before .before .args .sized then some (c .before .before .before .before .before .before .before .before .before .before .before .before .before .before .before .before .args .size) else none) (c .before .before .before .before .before .before .before .before .before .before .before .before .before .if1 .left) (sym (c .before .before .before .before .before .before .before .before .before .before .before .before .fixed-too-short .ensures) ∙ c .before .before .before .before .before .before .before .before .before .before .before .if2 .left) 6 _ refl) (c .before .before .decimal-of3 .ensures))
 
 shared-slice-read-if6 : tie.Need-shared-slice-read-if6
-shared-slice-read-if6 c = node-there _ _ (c .before .before .before .before .before .before .before .before .before .before .before .before .pre)
+shared-slice-read-if6 c = value-there _ _ (c .before .before .before .before .before .before .before .before .before .before .before .before .pre) .1
 
 content-requires-4 : tie.Need-content-requires-4
 content-requires-4 c κs = text-reads-counted _ _ (c .before .before .before .before .before .before .before .before .before .before .before .before .before .pre) 7 content-String (c .if6 .taken)

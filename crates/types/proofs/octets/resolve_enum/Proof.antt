@@ -1,21 +1,22 @@
 use native.Mathlib.Omega.{arith}
 use Rattle.number.proofs.Laws.{getD-allBytes}
+use Rattle.frame.proofs.ValueNodes.{value-there}
+use Rattle.frame.proofs.SchemaNodes.{schema-there}
 use Rattle.buffer.proofs.BuiltLaws.{tail-is}
-use Rattle.types.proofs.NodeLaws.{node-there}
 use Rattle.types.proofs.PartLaws.{content-String, text-reads-counted, text-node}
-use Rattle.types.proofs.EnumLaws.{schema-there, schema-symbols, enum-way, enum-other, string-symbol, enum-symbol, symbol-there, symbol-counted, symbol-node}
+use Rattle.types.proofs.EnumLaws.{schema-symbols, enum-way, enum-other, string-symbol, enum-symbol, symbol-there, symbol-counted, symbol-node}
 use borrow.Author.Needs.{needs}
 use Rattle.types.proofs.octets.resolve_enum.Statement.{statement}
 use Rattle.types.proofs.octets.resolve_enum.Tie as tie
 
 shared-slice-read-if1 : tie.Need-shared-slice-read-if1
-shared-slice-read-if1 c = node-there _ _ (c .before .before .before .before .pre .2)
+shared-slice-read-if1 c = value-there _ _ (c .before .before .before .before .pre .2) .1
 
 sub-enum-of : tie.Need-sub-enum-of
-sub-enum-of c = omega (arith, schema-there (c .before .before .before .before .before .args .ds) (c .before .before .before .before .before .args .s .now) (c .before .before .before .before .before .pre .0) (c .before .before .before .before .before .pre .1))
+sub-enum-of c = omega (arith, schema-there (c .before .before .before .before .before .args .ds) (c .before .before .before .before .before .args .s .now) (c .before .before .before .before .before .pre .0) .1)
 
 part-enum-of-start : tie.Need-part-enum-of-start
-part-enum-of-start c = omega (arith, schema-there (c .before .before .before .before .before .args .ds) (c .before .before .before .before .before .args .s .now) (c .before .before .before .before .before .pre .0) (c .before .before .before .before .before .pre .1))
+part-enum-of-start c = omega (arith, schema-there (c .before .before .before .before .before .args .ds) (c .before .before .before .before .before .args .s .now) (c .before .before .before .before .before .pre .0) .1)
 
 part-enum-of-end : tie.Need-part-enum-of-end
 part-enum-of-end c = search needs
@@ -42,13 +43,13 @@ returns : tie.Need-returns
 returns c = enum-way (c .before .before .before .before .before .before .before .before .before .before .before .before .args .ds) (c .before .before .before .before .before .before .before .before .before .before .before .before .args .s .now) (c .before .before .before .before .before .before .before .before .before .before .before .before .pre .0) (c .before .before .before .before .before .before .before .before .before .before .before .before .pre .1) (c .before .before .before .before .before .before .before .before .before .before .before .before .args .depth) (c .before .before .before .before .before .before .before .before .before .before .before .before .args .v .now) _ _ (symbol-node (c .before .before .before .before .before .before .before .before .before .before .before .before .args .depth) (c .before .before .before .before .before .before .before .before .before .before .before .before .args .v .now) (c .before .before .before .before .before .before .before .before .before .before .before .before .pre .2) (c .before .before .before .before .before .before .before .if1 .taken) _ _ (rw tail-is at (c .before .before .before .before .content .ensures .0))) _ _ _ (enum-symbol _ _) (rw tail-is at (c .before .before .enum-of .ensures))
 
 shared-slice-read-if2 : tie.Need-shared-slice-read-if2
-shared-slice-read-if2 c = node-there _ _ (c .before .before .before .before .before .before .pre .2)
+shared-slice-read-if2 c = value-there _ _ (c .before .before .before .before .before .before .pre .2) .1
 
 sub-enum-of-2 : tie.Need-sub-enum-of-2
-sub-enum-of-2 c = omega (arith, schema-there (c .before .before .before .before .before .before .before .args .ds) (c .before .before .before .before .before .before .before .args .s .now) (c .before .before .before .before .before .before .before .pre .0) (c .before .before .before .before .before .before .before .pre .1))
+sub-enum-of-2 c = omega (arith, schema-there (c .before .before .before .before .before .before .before .args .ds) (c .before .before .before .before .before .before .before .args .s .now) (c .before .before .before .before .before .before .before .pre .0) .1)
 
 part-enum-of-start-2 : tie.Need-part-enum-of-start-2
-part-enum-of-start-2 c = omega (arith, schema-there (c .before .before .before .before .before .before .before .args .ds) (c .before .before .before .before .before .before .before .args .s .now) (c .before .before .before .before .before .before .before .pre .0) (c .before .before .before .before .before .before .before .pre .1))
+part-enum-of-start-2 c = omega (arith, schema-there (c .before .before .before .before .before .before .before .args .ds) (c .before .before .before .before .before .before .before .args .s .now) (c .before .before .before .before .before .before .before .pre .0) .1)
 
 part-enum-of-end-2 : tie.Need-part-enum-of-end-2
 part-enum-of-end-2 c = search needs

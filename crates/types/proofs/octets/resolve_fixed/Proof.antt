@@ -1,8 +1,9 @@
 use native.Mathlib.Omega.{arith}
 use Rattle.number.proofs.Laws.{getD-allBytes}
 use Rattle.frame.specs.Tree.{kindOf, octets}
+use Rattle.frame.proofs.ValueNodes.{value-there}
 use Rattle.types.specs.Types.{resolve-fixed}
-use Rattle.types.proofs.NodeLaws.{node-there, kind-refused}
+use Rattle.types.proofs.NodeLaws.{kind-refused}
 use Rattle.types.proofs.PartLaws.{content-Bytes, content-String, content-Fixed, counted-reads, text-reads-counted, wrote-counted, on-counted, on-text}
 use Rattle.types.proofs.OctetLaws.{fixed-other}
 use borrow.Author.Needs.{needs}
@@ -10,7 +11,7 @@ use Rattle.types.proofs.octets.resolve_fixed.Statement.{statement}
 use Rattle.types.proofs.octets.resolve_fixed.Tie as tie
 
 shared-slice-read-if1 : tie.Need-shared-slice-read-if1
-shared-slice-read-if1 c = node-there _ _ (c .before .before .before .pre)
+shared-slice-read-if1 c = value-there _ _ (c .before .before .before .pre) .1
 
 content-requires : tie.Need-content-requires
 content-requires c κs = text-reads-counted _ _ (c .before .before .before .before .before .pre) 7 content-String (c .before .if1 .taken)
@@ -26,7 +27,7 @@ unfolding resolve-fixed kindOf octets
 returns c = on-text (resolve-fixed (c .before .before .before .before .before .before .before .before .before .args .size)) _ _ (c .before .before .before .before .before .before .before .before .before .pre) _ _ _ (c .before .before .before .before .before .if1 .taken) (c .before .before .before .content .ensures) (wrote-counted 13 _ _ _ content-Fixed (c .before .before .put-counted .ensures))
 
 shared-slice-read-if2 : tie.Need-shared-slice-read-if2
-shared-slice-read-if2 c = node-there _ _ (c .before .before .before .before .before .pre)
+shared-slice-read-if2 c = value-there _ _ (c .before .before .before .before .before .pre) .1
 
 content-requires-2 : tie.Need-content-requires-2
 content-requires-2 c κs = counted-reads _ _ (c .before .before .before .before .before .before .pre) 13 content-Fixed (c .if2 .taken)
@@ -42,7 +43,7 @@ unfolding resolve-fixed kindOf octets
 returns-2 c = on-counted (resolve-fixed (c .before .before .before .before .before .before .before .before .before .before .before .args .size)) _ _ (c .before .before .before .before .before .before .before .before .before .before .before .pre) 13 _ _ _ content-Fixed (c .before .before .before .before .before .if2 .taken) (c .before .before .before .before .content2 .ensures) (c .before .before .fixed-of .ensures)
 
 shared-slice-read-if3 : tie.Need-shared-slice-read-if3
-shared-slice-read-if3 c = node-there _ _ (c .before .before .before .before .before .before .before .pre)
+shared-slice-read-if3 c = value-there _ _ (c .before .before .before .before .before .before .before .pre) .1
 
 content-requires-3 : tie.Need-content-requires-3
 content-requires-3 c κs = counted-reads _ _ (c .before .before .before .before .before .before .before .before .pre) 6 content-Bytes (c .if3 .taken)

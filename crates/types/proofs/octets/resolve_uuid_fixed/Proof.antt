@@ -1,8 +1,9 @@
 use native.Mathlib.Omega.{arith}
 use Rattle.number.proofs.Laws.{getD-allBytes}
 use Rattle.frame.specs.Tree.{UuidForm, kindOf, octets}
+use Rattle.frame.proofs.ValueNodes.{value-there}
 use Rattle.types.specs.Types.{resolve-uuid}
-use Rattle.types.proofs.NodeLaws.{node-there, kind-refused}
+use Rattle.types.proofs.NodeLaws.{kind-refused}
 use Rattle.types.proofs.PartLaws.{content-String, content-Fixed, content-Uuid, counted-reads, text-reads-counted, plain-node, wrote-plain, on-counted, on-text, on-plain}
 use Rattle.types.proofs.OctetLaws.{uuid-fixed-other}
 use borrow.Author.Needs.{needs}
@@ -10,7 +11,7 @@ use Rattle.types.proofs.octets.resolve_uuid_fixed.Statement.{statement}
 use Rattle.types.proofs.octets.resolve_uuid_fixed.Tie as tie
 
 shared-slice-read-if1 : tie.Need-shared-slice-read-if1
-shared-slice-read-if1 c = node-there _ _ (c .before .before .before .pre)
+shared-slice-read-if1 c = value-there _ _ (c .before .before .before .pre) .1
 
 sub-put-plain : tie.Need-sub-put-plain
 sub-put-plain c = search needs
@@ -32,7 +33,7 @@ unfolding resolve-uuid kindOf octets
 returns c = on-plain (resolve-uuid (UuidForm.fixed (c .before .before .before .before .before .before .before .before .before .args .size))) _ _ (c .before .before .before .before .before .before .before .before .before .pre) 15 16 _ _ content-Uuid (c .before .before .before .before .before .if1 .taken) (wrote-plain 15 16 _ _ _ content-Uuid (c .before .before .put-plain .ensures))
 
 shared-slice-read-if2 : tie.Need-shared-slice-read-if2
-shared-slice-read-if2 c = node-there _ _ (c .before .before .before .before .before .pre)
+shared-slice-read-if2 c = value-there _ _ (c .before .before .before .before .before .pre) .1
 
 content-requires : tie.Need-content-requires
 content-requires c κs = counted-reads _ _ (c .before .before .before .before .before .before .pre) 13 content-Fixed (c .if2 .taken)
@@ -48,7 +49,7 @@ unfolding resolve-uuid kindOf octets
 returns-2 c = on-counted (resolve-uuid (UuidForm.fixed (c .before .before .before .before .before .before .before .before .before .before .before .args .size))) _ _ (c .before .before .before .before .before .before .before .before .before .before .before .pre) 13 _ _ _ content-Fixed (c .before .before .before .before .before .if2 .taken) (c .before .before .before .before .content .ensures) (c .before .before .uuid-of .ensures)
 
 shared-slice-read-if3 : tie.Need-shared-slice-read-if3
-shared-slice-read-if3 c = node-there _ _ (c .before .before .before .before .before .before .before .pre)
+shared-slice-read-if3 c = value-there _ _ (c .before .before .before .before .before .before .before .pre) .1
 
 content-requires-2 : tie.Need-content-requires-2
 content-requires-2 c κs = text-reads-counted _ _ (c .before .before .before .before .before .before .before .before .pre) 7 content-String (c .if3 .taken)

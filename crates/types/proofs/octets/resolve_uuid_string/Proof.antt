@@ -1,8 +1,9 @@
 use native.Mathlib.Omega.{arith}
 use Rattle.number.proofs.Laws.{getD-allBytes}
 use Rattle.frame.specs.Tree.{UuidForm, kindOf, octets}
+use Rattle.frame.proofs.ValueNodes.{value-there}
 use Rattle.types.specs.Types.{resolve-uuid}
-use Rattle.types.proofs.NodeLaws.{node-there, kind-refused}
+use Rattle.types.proofs.NodeLaws.{kind-refused}
 use Rattle.types.proofs.PartLaws.{content-String, content-Uuid, text-reads-counted, plain-node, wrote-plain, on-text, on-plain}
 use Rattle.types.proofs.OctetLaws.{uuid-string-other}
 use borrow.Author.Needs.{needs}
@@ -10,7 +11,7 @@ use Rattle.types.proofs.octets.resolve_uuid_string.Statement.{statement
 use Rattle.types.proofs.octets.resolve_uuid_string.Tie as tie
 
 shared-slice-read-if1 : tie.Need-shared-slice-read-if1
-shared-slice-read-if1 c = node-there _ _ (c .before .before .before .pre)
+shared-slice-read-if1 c = value-there _ _ (c .before .before .before .pre) .1
 
 sub-put-plain : tie.Need-sub-put-plain
 sub-put-plain c = search needs
@@ -32,7 +33,7 @@ unfolding resolve-uuid kindOf octets
 returns c = on-plain (resolve-uuid UuidForm.string) _ _ (c .before .before .before .before .before .before .before .before .before .pre) 15 16 _ _ content-Uuid (c .before .before .before .before .before .if1 .taken) (wrote-plain 15 16 _ _ _ content-Uuid (c .before .before .put-plain .ensures))
 
 shared-slice-read-if2 : tie.Need-shared-slice-read-if2
-shared-slice-read-if2 c = node-there _ _ (c .before .before .before .before .before .pre)
+shared-slice-read-if2 c = value-there _ _ (c .before .before .before .before .before .pre) .1
 
 content-requires : tie.Need-content-requires
 content-requires c κs = text-reads-counted _ _ (c .before .before .before .before .before .before .pre) 7 content-String (c .if2 .taken)

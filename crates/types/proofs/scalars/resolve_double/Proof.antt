@@ -10,14 +10,15 @@ use Rattle.scalar.specs.Conversion.{parse-special-float, doubleOfFloat}
 use mathlib.Core.List.{List}
 use Prim.Native.Nat.{ℕ}
 use Rattle.types.specs.Types.{special, resolve-double}
-use Rattle.types.proofs.NodeLaws.{node-there, wide-node, wide-front, text-node, wide-kept, wide-made, kind-refused, text-answered}
+use Rattle.types.proofs.NodeLaws.{wide-node, wide-front, text-node, wide-kept, wide-made, kind-refused, text-answered}
 use Rattle.types.proofs.ScalarLaws.{int-content, long-content, float-content, double-content, string-content, double-kept, double-of-int, double-of-long, double-of-float, double-of-text, double-refused}
 use Rattle.frame.specs.Kind
+use Rattle.frame.proofs.ValueNodes.{value-there}
 use Rattle.types.proofs.scalars.resolve_double.Statement.{statement}
 use Rattle.types.proofs.scalars.resolve_double.Tie as tie
 
 shared-slice-read-k : tie.Need-shared-slice-read-k
-shared-slice-read-k c = node-there _ _ (c .before .before .before .pre)
+shared-slice-read-k c = value-there _ _ (c .before .before .before .pre) .1
 
 read4-requires : tie.Need-read4-requires
 read4-requires c κs = wide-node _ _ (c .before .before .before .before .before .pre) 2 4 int-content (c .before .if1 .taken) .0
@@ -77,10 +78,10 @@ returns-4 : tie.Need-returns-4
 returns-4 c = wide-kept resolve-double _ _ (c .before .before .before .before .before .before .before .before .before .before .before .before .pre) 5 8 double-content (c .before .before .before .before .before .if4 .taken) (getD-allBytes _ (λ i. omega (arith, c .before .before .before .before .before .before .before .before .before .before .before .shared-slice-known .given i))) double-kept _ _ (c .before .before .put .ensures)
 
 sub-double-of-text : tie.Need-sub-double-of-text
-sub-double-of-text c = let h = node-there _ _ (c .before .before .before .before .before .before .before .before .pre) in omega arith
+sub-double-of-text c = let h = value-there _ _ (c .before .before .before .before .before .before .before .before .pre) .1 in omega arith
 
 part-double-of-text-start : tie.Need-part-double-of-text-start
-part-double-of-text-start c = let h = node-there _ _ (c .before .before .before .before .before .before .before .before .pre) in omega arith
+part-double-of-text-start c = let h = value-there _ _ (c .before .before .before .before .before .before .before .before .pre) .1 in omega arith
 
 part-double-of-text-end : tie.Need-part-double-of-text-end
 part-double-of-text-end c = search needs

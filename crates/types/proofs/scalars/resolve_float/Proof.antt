@@ -10,14 +10,15 @@ use Rattle.scalar.specs.Conversion.{parse-special-float}
 use mathlib.Core.List.{List}
 use Prim.Native.Nat.{ℕ}
 use Rattle.types.specs.Types.{special, resolve-float}
-use Rattle.types.proofs.NodeLaws.{node-there, wide-node, wide-front, text-node, wide-kept, wide-made, kind-refused, text-answered}
+use Rattle.types.proofs.NodeLaws.{wide-node, wide-front, text-node, wide-kept, wide-made, kind-refused, text-answered}
 use Rattle.types.proofs.ScalarLaws.{int-content, long-content, float-content, double-content, string-content, float-kept, float-of-int, float-of-long, float-of-double, float-of-text, float-refused}
 use Rattle.frame.specs.Kind
+use Rattle.frame.proofs.ValueNodes.{value-there}
 use Rattle.types.proofs.scalars.resolve_float.Statement.{statement}
 use Rattle.types.proofs.scalars.resolve_float.Tie as tie
 
 shared-slice-read-k : tie.Need-shared-slice-read-k
-shared-slice-read-k c = node-there _ _ (c .before .before .before .pre)
+shared-slice-read-k c = value-there _ _ (c .before .before .before .pre) .1
 
 read4-requires : tie.Need-read4-requires
 read4-requires c κs = wide-node _ _ (c .before .before .before .before .before .pre) 2 4 int-content (c .before .if1 .taken) .0
@@ -77,10 +78,10 @@ returns-4 : tie.Need-returns-4
 returns-4 c = wide-made resolve-float _ _ (c .before .before .before .before .before .before .before .before .before .before .before .before .before .pre) 5 8 _ 4 4 _ double-content (c .before .before .before .before .before .before .if4 .taken) (c .before .before .before .before .read82 .ensures) float-content (float-of-double _ _ (c .before .before .before .double-to-float .ensures)) _ _ (c .before .before .put-node43 .ensures)
 
 sub-float-of-text : tie.Need-sub-float-of-text
-sub-float-of-text c = let h = node-there _ _ (c .before .before .before .before .before .before .before .before .pre) in omega arith
+sub-float-of-text c = let h = value-there _ _ (c .before .before .before .before .before .before .before .before .pre) .1 in omega arith
 
 part-float-of-text-start : tie.Need-part-float-of-text-start
-part-float-of-text-start c = let h = node-there _ _ (c .before .before .before .before .before .before .before .before .pre) in omega arith
+part-float-of-text-start c = let h = value-there _ _ (c .before .before .before .before .before .before .before .before .pre) .1 in omega arith
 
 part-float-of-text-end : tie.Need-part-float-of-text-end
 part-float-of-text-end c = search needs
