@@ -1,9 +1,9 @@
 -- What the answers for a union and a record say, and the turns of the loops over variants and names.
-use Prim.Native.Nat.{ℕ, zero, _+_, _-_, _≤_, _<_}
+use Prim.Native.Nat.{ℕ, _+_, _-_, _≤_, _<_}
 use mathlib.Core.Path.{_≡_, sym, ap, _∙_}
 use mathlib.Core.List.{List}
 use mathlib.Core.Option.{some}
-use mathlib.Core.Bool.{Bool, true, false, _&&_, _||_, not}
+use mathlib.Core.Bool.{Bool, true, false, _&&_, _||_, not, and-assoc}
 use native.Mathlib.Omega.{arith}
 use native.Mathlib.Nat.{add-zero}
 use lib.Dec.{ltb, eqb}
@@ -11,28 +11,29 @@ use lib.ListN.{length, drop, getD, length-drop}
 use lib.Seq.{getD-drop}
 use Rattle.number.specs.Number.{numberAt}
 use Rattle.text.specs.Text.{Text, same}
-use Rattle.text.specs.Read.{Read, readNumber, readCounted}
+use Rattle.text.specs.Read.{Read, readNumber, readCounted, readText}
 use Rattle.text.specs.Measured.{Reads}
+use Rattle.text.proofs.ReadLaws.{reads-text}
 use Rattle.frame.specs.Tree.{Schema, schemaKind}
 use Rattle.frame.specs.Readers.{readList}
 use Rattle.frame.specs.SchemaFrame.{fieldsOf, variantsOf, readField, readLead, readSchemaContent, readSchema}
 use Rattle.frame.specs.Sound.{schemaSound, variantsSound, kindsSound, positionsSound, countVariants, hasField}
 use Rattle.frame.specs.Checks.{Checks, Spans}
 use Rattle.frame.specs.declared.Checked.the-variants.{Of}
+use Rattle.frame.proofs.Reading.{read-what, bind-some, reads-some, reads-first}
+use Rattle.frame.proofs.Measuring.{Held, held, checks-some, checks-reads}
+use Rattle.frame.proofs.Counting.{many-length, list-many, reads-list, Going, going-step, Left, left-first, left-step}
+use Rattle.frame.proofs.SchemaNodes.{schema-there, schema-kind, count-variants}
 use Rattle.schema.specs.Parts.{Field, eachSound, namesDiffer, noUnions}
-use Rattle.schema.proofs.Reading.{Going, going-step, Held, held, checks-of, bind-some, and-assoc, read-what, many-length, list-got}
-use Rattle.schema.proofs.Nodes.{union-got, record-content, schema-kind, schema-there, variants-count}
-use Rattle.schema.proofs.Seeking.{Left, left-first, left-step, reads-some, field-name, list-long, fields-sound}
-
-pub checks-reads : {A : Type 0} (sound : A → Bool) (x : Read A) (s : List ℕ) (n : ℕ) (b : Bool) → Checks sound x s (Of n b) → Reads x
-checks-reads sound x s n b w = let q = held sound x s n b w in reads-some x (q .what) (drop n s) (q .read)
+use Rattle.schema.proofs.Nodes.{union-got, record-content}
+use Rattle.schema.proofs.Seeking.{field-name, fields-sound}
 
 -- ---- variants
 
 pub variant-there : (d : ℕ) (s : List ℕ) (at m : ℕ) (fine : Bool) → Checks schemaSound (readSchema d (drop at s)) (drop at s) (Of m fine) → at < length s
 variant-there d s at m fine w =
     let q = held schemaSound _ _ m fine w in
-    let t : length (drop at s) ≡ 0 → ⊥ = schema-there d (drop at s) (q .what) _ (q .read) .1 in
+    let t : 0 < length (drop at s) = schema-there d (drop at s) (reads-some (q .what) _ (q .read)) .1 in
     omega (arith, t, length-drop at s)
 
 pub variants-step : (d : ℕ) (s : List ℕ) (at left : ℕ) (ok : Bool) → Going (readList (readSchema d) s) (readSchema d) noUnions s at left ok noUnions → 0 < left
@@ -55,7 +56,7 @@ variants-step d s at left ok w h m fine one ok' v e1 e2 =
 -- ---- unions
 
 pub count-there : (node : List ℕ → Read Schema) (s : List ℕ) (a : ℕ) (ok : Bool) → Checks noUnions (readList node s) s (Of a ok) → 2 ≤ length s
-count-there node s a ok v = list-long node s (checks-reads noUnions _ s a ok v)
+count-there node s a ok v = reads-list node s (checks-reads noUnions _ s a ok v)
 
 pub union-checks : (node : List ℕ → Read Schema) (s : List ℕ) (a : ℕ) (ok : Bool) → Checks noUnions (readList node s) s (Of a ok) → (count : ℕ) → count ≡ numberAt s 0 2
     → (b : ℕ) (kinds : Bool) → Checks (kindsSound count 0) (readList readLead (drop a s)) (drop a s) (Of b kinds)
@@ -66,8 +67,8 @@ union-checks node s a ok v count ec b kinds w d named u x y z ex ey ez =
     let q = held noUnions (readList node s) s a ok v in
     let r = held (kindsSound count 0) (readList readLead (drop a s)) (drop a s) b kinds w in
     let t = held (positionsSound count) (readList (readNumber 2) (drop (a + b) s)) (drop (a + b) s) d named u in
-    let n : count ≡ countVariants (variantsOf (q .what)) = sym (variants-count (q .what) ∙ many-length node (numberAt s 0 2) (drop 2 s) (q .what) _ (sym (list-got node s (count-there node s a ok v)) ∙ q .read) ∙ sym ec) in
-    checks-of schemaSound _ s (a + b + d) z (omega (arith, q .inside, r .inside, t .inside, length-drop a s, length-drop (a + b) s)) _
+    let n : count ≡ countVariants (variantsOf (q .what)) = sym (count-variants (q .what) ∙ many-length node (numberAt s 0 2) (drop 2 s) (q .what) _ (sym (list-many node s (count-there node s a ok v)) ∙ q .read) ∙ sym ec) in
+    checks-some schemaSound _ s (a + b + d) z (omega (arith, q .inside, r .inside, t .inside, length-drop a s, length-drop (a + b) s)) _
     (union-got node s a (q .what) (q .read) b (r .what) (r .read) d (t .what) (t .read))
     (ez ∙ ap (λ k. k && named) (ey ∙ ap (λ k. k && kinds) (ex ∙ ap (λ k. ltb 0 count && k) (q .tells)) ∙ ap (λ k. ltb 0 count && noUnions (q .what) && k) (r .tells))
     ∙ ap (λ k. ltb 0 count && noUnions (q .what) && kindsSound count 0 (r .what) && k) (t .tells)
@@ -80,14 +81,14 @@ pub record-checks : (node : List ℕ → Read Schema) (s : List ℕ) (m : ℕ) (
 unfolding schemaSound
 record-checks node s m ok v differ h b e =
     let q = held eachSound (readList (readField node) s) s m ok v in
-    checks-of schemaSound _ s m b (q .inside) (Schema.Record (fieldsOf (q .what))) (record-content node s ∙ bind-some (q .what, drop m s) _ (q .read))
+    checks-some schemaSound _ s m b (q .inside) (Schema.Record (fieldsOf (q .what))) (record-content node s ∙ bind-some _ _ (q .what) (drop m s) (q .read))
     (e ∙ ap (λ k. k && differ) (q .tells) ∙ ap (λ k. eachSound (q .what) && k) (h (q .what) (drop m s) (q .read)) ∙ fields-sound (q .what))
 
 -- ---- names
 
 pub name-reads : (node : List ℕ → Read Schema) (t : List ℕ) → Reads (readField node t) → Reads (readCounted t)
-unfolding Reads
-name-reads node t r = let q = field-name node t (r .0) (r .1 .0) (r .1 .1) in (r .0 .0, (q .0, q .1))
+unfolding readField
+name-reads node t r = reads-text t (reads-first (readText t) _ r)
 
 pub name-is : (node : List ℕ → Read Schema) (t : List ℕ) (f : Field) (r : List ℕ) → readField node t ≡ some (f, r) → (other : Text) (v : List ℕ) → readCounted t ≡ some (other, v) → other ≡ f .0
 name-is node t f r e other v g = read-what (sym g ∙ field-name node t f r e .1)

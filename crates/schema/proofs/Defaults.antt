@@ -3,7 +3,7 @@ use Prim.Native.Nat.{ℕ, _+_, _-_, _≤_, _<_}
 use mathlib.Core.Path.{_≡_, refl, sym, ap, _∙_, subst}
 use mathlib.Core.List.{List}
 use mathlib.Core.Option.{none, some}
-use mathlib.Core.Bool.{Bool, true, false, _&&_, _||_, not}
+use mathlib.Core.Bool.{Bool, true, false, _&&_, not, or-false, and-assoc}
 use native.Mathlib.Omega.{arith}
 use lib.Dec.{T, leb, ltb, eqb, nleb→lt, eqb→eq}
 use lib.ListN.{length, drop, getD, length-drop, List·getD-eq-default}
@@ -15,6 +15,7 @@ use Rattle.text.specs.Text.{Text}
 use Rattle.text.specs.Read.{Read, _>>=_, readBytes, readNumber, readCounted, readText}
 use Rattle.text.specs.Measured.{Reads}
 use Rattle.scalar.specs.Conversion.{inInt, finiteDouble}
+use Rattle.text.proofs.ReadLaws.{readText-counted, readNumber-some}
 use Rattle.frame.specs.Kind
 use Rattle.frame.specs.Tree.{Value}
 use Rattle.frame.specs.Readers.{readFlag, readList, readOption}
@@ -22,16 +23,11 @@ use Rattle.frame.specs.ValueFrame.{Content, wide, flag, counted, text, plain, a
 use Rattle.frame.specs.Sound.{keysRise, defaultScalar, defaultKinds, defaultItems, defaultEntries, defaultAllowed}
 use Rattle.frame.specs.Checks.{Checks, Spans}
 use Rattle.frame.specs.declared.Checked.the-variants.{Of}
-use Rattle.value.proofs.ReaderLaws.{not-reads, reads-eq, reads-first, reads-number}
-use Rattle.value.proofs.NodeLaws.{value-bottom, value-empty, value-node}
-use Rattle.schema.proofs.Reading.{held, checks-of, number-got, and-assoc, read-what, read-rest, not-both}
+use Rattle.frame.proofs.Reading.{read-what, read-rest, not-both, bind-inv, reads-some, reads-eq, reads-first, reads-number, option-one-some}
+use Rattle.frame.proofs.Measuring.{held, checks-some}
+use Rattle.frame.proofs.Counting.{First, Left, left-first, left-step}
+use Rattle.frame.proofs.ValueNodes.{value-opened}
 use native.Mathlib.Nat.{add-assoc}
-use Rattle.schema.proofs.Leaves.{option-one-some}
-use Rattle.schema.proofs.Seeking.{Left, First, left-first, left-step, reads-some, bind-inv, text-counted}
-
-or-false : (a : Bool) → a || false ≡ a
-or-false true = refl
-or-false false = refl
 
 pub below-not : (n k : ℕ) → ltb n k ≡ not (leb k n)
 below-not n k = go (leb k n) refl
@@ -39,21 +35,6 @@ below-not n k = go (leb k n) refl
     go : (b : Bool) → leb k n ≡ b → ltb n k ≡ not b
     go true e = le-ltb n k (leb-true k n e)
     go false e = lt-ltb n k (leb-false k n e)
-
--- ---- a value that is there
-
-pub value-deep : (d : ℕ) (s : List ℕ) → Reads (readValue d s) → d ≡ 0 → ⊥
-value-deep d s r e = not-reads _ (value-bottom d s e) r
-
-pub value-long : (d : ℕ) (s : List ℕ) → Reads (readValue d s) → 1 ≤ length s
-value-long d s r = go (leb 1 (length s)) refl
-  where
-    go : (b : Bool) → leb 1 (length s) ≡ b → 1 ≤ length s
-    go true e = leb-true 1 (length s) e
-    go false e = absurd (not-reads _ (value-empty d s (leb-false 1 (length s) e)) r)
-
-pub value-at : (d : ℕ) (s : List ℕ) (k : ℕ) → Reads (readValue d s) → getD s 0 0 ≡ k → readValue d s ≡ readContent (readValue (d - 1)) k (content k) (drop 1 s)
-value-at d s k r e = value-node d s (value-deep d s r) (value-long d s r) ∙ ap (λ j. readContent (readValue (d - 1)) j (content j) (drop 1 s)) e
 
 -- ---- what is read and what is said of it
 
@@ -128,7 +109,7 @@ module _ (k : ℕ) (f3 : k ≡ 3 → ⊥) (f5 : k ≡ 5 → ⊥) (f7 : k ≡ 7 �
 module _ (d : ℕ) (s : List ℕ) (r : Reads (readValue d s)) where
   says-at : (k : ℕ) (b : Bool) → getD s 0 0 ≡ k → Says b (readContent (readValue (d - 1)) k (content k) (drop 1 s)) → (v : Value) (u : List ℕ) → readValue d s ≡ some (v, u) → b ≡ defaultKinds v
   unfolding Says
-  says-at k b e w v u g = w v u (sym (value-at d s k r e) ∙ g)
+  says-at k b e w v u g = w v u (sym (value-opened d s r k e) ∙ g)
 
   pub other-kinds : (getD s 0 0 ≡ 3 → ⊥) → (getD s 0 0 ≡ 5 → ⊥) → (getD s 0 0 ≡ 7 → ⊥) → (getD s 0 0 ≡ 8 → ⊥) → (getD s 0 0 ≡ 9 → ⊥) → (v : Value) (u : List ℕ) → readValue d s ≡ some (v, u) → leb (getD s 0 0) 2 ≡ defaultKinds v
   other-kinds f3 f5 f7 f8 f9 = says-at (getD s 0 0) (leb (getD s 0 0) 2) refl (content-other (getD s 0 0) f3 f5 f7 f8 f9 (readValue (d - 1)) (content (getD s 0 0)) (drop 1 s) (kind-test (getD s 0 0)))
@@ -136,14 +117,14 @@ module _ (d : ℕ) (s : List ℕ) (r : Reads (readValue d s)) where
   pub wide-there : (k : ℕ) → getD s 0 0 ≡ k → content k ≡ wide 8 → 9 ≤ length s
   unfolding readContent
   wide-there k e c =
-      let h : 8 ≤ length (drop 1 s) = reads-number 8 (drop 1 s) (reads-first (readNumber 8 (drop 1 s)) _ (reads-eq _ _ (value-at d s k r e ∙ ap (λ c. readContent (readValue (d - 1)) k c (drop 1 s)) c) r)) in
+      let h : 8 ≤ length (drop 1 s) = reads-number 8 (drop 1 s) (reads-first (readNumber 8 (drop 1 s)) _ (reads-eq _ _ (value-opened d s r k e ∙ ap (λ c. readContent (readValue (d - 1)) k c (drop 1 s)) c) r)) in
       omega (arith, length-drop 1 s)
 
   wide-says : (k : ℕ) (b : Bool) → getD s 0 0 ≡ k → content k ≡ wide 8 → b ≡ defaultScalar k (numberAt s 1 8) → (v : Value) (u : List ℕ) → readValue d s ≡ some (v, u) → b ≡ defaultKinds v
   unfolding readContent defaultKinds
   wide-says k b e c h =
       says-at k b e (subst (λ c. Says b (readContent (readValue (d - 1)) k c (drop 1 s))) (sym c)
-      (says-bind b (readNumber 8 (drop 1 s)) _ (λ q g. says-some b (Value.Scalar k (q .0)) (q .1) (h ∙ ap (defaultScalar k) (read-what (sym (number-got 8 (drop 1 s) (omega (arith, length-drop 1 s, wide-there k e c))) ∙ g))))))
+      (says-bind b (readNumber 8 (drop 1 s)) _ (λ q g. says-some b (Value.Scalar k (q .0)) (q .1) (h ∙ ap (defaultScalar k) (read-what (sym (readNumber-some 8 (drop 1 s) (omega (arith, length-drop 1 s, wide-there k e c))) ∙ g))))))
 
   pub long-there : getD s 0 0 ≡ 3 → 9 ≤ length s
   unfolding table
@@ -167,11 +148,11 @@ module _ (d : ℕ) (s : List ℕ) (r : Reads (readValue d s)) where
 
   pub array-reads : getD s 0 0 ≡ 8 → Reads (readList (readValue (d - 1)) (drop 1 s))
   unfolding table readContent
-  array-reads e = reads-first (readList (readValue (d - 1)) (drop 1 s)) _ (reads-eq _ _ (value-at d s 8 r e) r)
+  array-reads e = reads-first (readList (readValue (d - 1)) (drop 1 s)) _ (reads-eq _ _ (value-opened d s r 8 e) r)
 
   pub map-reads : getD s 0 0 ≡ 9 → Reads (readList (readEntry (readValue (d - 1))) (drop 1 s))
   unfolding table readContent
-  map-reads e = reads-first (readList (readEntry (readValue (d - 1))) (drop 1 s)) _ (reads-eq _ _ (value-at d s 9 r e) r)
+  map-reads e = reads-first (readList (readEntry (readValue (d - 1))) (drop 1 s)) _ (reads-eq _ _ (value-opened d s r 9 e) r)
 
   pub array-says : getD s 0 0 ≡ 8 → (b : Bool) → ((vs : List Value) (u : List ℕ) → readList (readValue (d - 1)) (drop 1 s) ≡ some (vs, u) → b ≡ defaultItems (itemsOf vs)) → (v : Value) (u : List ℕ) → readValue d s ≡ some (v, u) → b ≡ defaultKinds v
   unfolding table readContent defaultKinds
@@ -209,7 +190,7 @@ entry-inv node t e r g =
     let q : _≡_ {A = Text × Value} (w .0 .0, v .0 .0) e = read-what (v .1 .1) in
     record {
       behind = w .0 .1;
-      key = text-counted t (w .0 .0) (w .0 .1) (w .1 .0) ∙ ap (λ (x : Text × Value). some (x .0, w .0 .1)) q;
+      key = readText-counted t (w .0 .0) (w .0 .1) (w .1 .0) .0 ∙ ap (λ (x : Text × Value). some (x .0, w .0 .1)) q;
       value = v .1 .0 ∙ ap (λ (x : Text × Value). some (x .1, v .0 .1)) q ∙ ap (λ u. some (e .1, u)) (read-rest (v .1 .1));
     }
 
@@ -224,7 +205,7 @@ module _ (node : List ℕ → Read Value) (s : List ℕ) (at left : ℕ) (ok : B
   parts = entry-inv node (drop at s) (one .item) (one .behind) (one .first)
 
   pub key-reads : Reads (readCounted (drop at s))
-  key-reads = reads-some _ (one .item .0) (parts .behind) (parts .key)
+  key-reads = reads-some (one .item .0) (parts .behind) (parts .key)
 
   module _ (key : Text) (g : readCounted (drop at s) ≡ some (key, drop (2 + length key) (drop at s))) where
     behind-key : parts .behind ≡ drop (at + (2 + length key)) s
@@ -234,7 +215,7 @@ module _ (node : List ℕ → Read Value) (s : List ℕ) (at left : ℕ) (ok : B
     value-is = ap node (sym behind-key) ∙ parts .value
 
     pub entry-reads : Reads (node (drop (at + (2 + length key)) s))
-    entry-reads = reads-some _ (one .item .1) (one .behind) value-is
+    entry-reads = reads-some (one .item .1) (one .behind) value-is
 
     pub entries-step : (2 + length key) ≤ length (drop at s) → (fine ok' : Bool) → ((v : Value) (u : List ℕ) → node (drop (at + (2 + length key)) s) ≡ some (v, u) → fine ≡ defaultKinds v) → ok' ≡ ok && fine → (m : ℕ) → Spans (node (drop (at + (2 + length key)) s)) (drop (at + (2 + length key)) s) m
         → Left (readList (readEntry node) s) (readEntry node) (λ es. defaultEntries (entriesOf es)) (entriesKinds ok') s (at + (2 + length key) + m) (left - 1)
@@ -253,5 +234,5 @@ pub default-checks : (s : List ℕ) → 0 < length s → getD s 0 0 ≡ 1 → (m
 unfolding defaultAllowed
 default-checks s h e m rise w kinds f b g =
     let q = held keysRise (readValue 16 (drop 1 s)) (drop 1 s) m rise w in
-    checks-of defaultAllowed _ s (1 + m) b (omega (arith, q .inside, length-drop 1 s)) (some (q .what)) (option-one-some (readValue 16) s h e (q .what) m (q .read))
+    checks-some defaultAllowed _ s (1 + m) b (omega (arith, q .inside, length-drop 1 s)) (some (q .what)) (option-one-some (readValue 16) s h e (q .what) m (q .read))
     (g ∙ ap (λ y. y && rise) (f (q .what) (drop m (drop 1 s)) (q .read)) ∙ ap (λ y. defaultKinds (q .what) && y) (q .tells))

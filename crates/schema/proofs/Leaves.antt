@@ -1,5 +1,5 @@
--- Flags, and the content of schema nodes without children, at each way that their readers go.
-use Prim.Native.Nat.{ℕ, zero, _+_, _-_, _≤_, _<_}
+-- The content of schema nodes without children, at each way that their readers go.
+use Prim.Native.Nat.{ℕ, _+_, _≤_, _<_}
 use mathlib.Core.Path.{_≡_, refl, ap, _∙_}
 use mathlib.Core.List.{List}
 use mathlib.Core.Option.{Option, none, some}
@@ -12,58 +12,18 @@ use borrow.Author.Tests.{leb-true, leb-false, le-leb, lt-leb, ne-eqb}
 use Rattle.number.specs.Number.{numberAt}
 use Rattle.text.specs.Text.{Text}
 use Rattle.text.specs.Read.{Read, _>>=_, readNumber, readText}
+use Rattle.text.proofs.ReadLaws.{readNumber-some, readNumber-none}
+use Rattle.number.proofs.Laws.{numberAt-one}
 use Rattle.frame.specs.Tree.{Schema, UuidForm}
-use Rattle.frame.specs.Readers.{readFlag, readList, readOption}
+use Rattle.frame.specs.Readers.{readList, readOption}
 use Rattle.frame.specs.SchemaFrame.{readUuidForm, readSchemaContent}
 use Rattle.text.specs.Measured.{Measured}
 use Rattle.text.specs.declared.Len.the-variants as len
 use Rattle.frame.specs.Sound.{schemaSound}
 use Rattle.frame.specs.Checks.{Checks}
 use Rattle.frame.specs.declared.Checked.the-variants.{Of}
-use Rattle.schema.proofs.Reading.{Long, long, checks-of, measured-of, none-measured, number-got, number-short, number-one, bind-none, bind-some, onto}
-
--- ---- 00, or 01 and a thing
-
-module _ (s : List ℕ) where
-  flag-empty : length s < 1 → readFlag s ≡ none
-  unfolding readFlag _>>=_
-  flag-empty h = rw (number-short 1 s h)
-
-  flag-got : 0 < length s → getD s 0 0 ≤ 1 → readFlag s ≡ some (getD s 0 0, drop 1 s)
-  unfolding readFlag _>>=_
-  flag-got h g = rw (number-got 1 s h, number-one s h, le-leb _ _ g)
-
-  flag-other : 0 < length s → 1 < getD s 0 0 → readFlag s ≡ none
-  unfolding readFlag _>>=_
-  flag-other h g = rw (number-got 1 s h, number-one s h, lt-leb _ _ g)
-
-module _ {A : Type 0} (p : List ℕ → Read A) (s : List ℕ) where
-  pub option-empty : length s ≡ 0 → readOption p s ≡ none
-  unfolding readOption _>>=_
-  option-empty h = rw (flag-empty s (omega arith))
-
-  pub option-zero : 0 < length s → getD s 0 0 ≡ 0 → readOption p s ≡ some (none, drop 1 s)
-  unfolding readOption _>>=_
-  option-zero h e = rw (flag-got s h (omega arith), e)
-
-  pub option-one : 0 < length s → getD s 0 0 ≡ 1 → readOption p s ≡ onto some (p (drop 1 s))
-  unfolding readOption _>>=_
-  option-one h e = rw (flag-got s h (omega arith), e)
-
-  pub option-one-none : 0 < length s → getD s 0 0 ≡ 1 → p (drop 1 s) ≡ none → readOption p s ≡ none
-  option-one-none h e g = option-one h e ∙ bind-none _ g
-
-  pub option-one-some : 0 < length s → getD s 0 0 ≡ 1 → (a : A) (m : ℕ) → p (drop 1 s) ≡ some (a, drop m (drop 1 s)) → readOption p s ≡ some (some a, drop (1 + m) s)
-  option-one-some h e a m g = option-one h e ∙ bind-some (a, drop m (drop 1 s)) _ g ∙ ap (λ t. some (some a, t)) (drop-drop m 1 s)
-
-  pub option-measured : 0 < length s → getD s 0 0 ≡ 1 → (m : ℕ) → Measured (p (drop 1 s)) (drop 1 s) (len.Of m) → Measured (readOption p s) s (len.Of (1 + m))
-  option-measured h e m w =
-      let q : Long (p (drop 1 s)) (drop 1 s) m = long _ _ m w in
-      measured-of _ s (1 + m) (omega (arith, q .inside, length-drop 1 s)) (some (q .what)) (option-one-some h e (q .what) m (q .read))
-
-  pub option-other : 0 < length s → (getD s 0 0 ≡ 0 → ⊥) → (getD s 0 0 ≡ 1 → ⊥) → readOption p s ≡ none
-  unfolding readOption _>>=_
-  option-other h f g = rw (flag-other s h (omega arith))
+use Rattle.frame.proofs.Reading.{bind-some, bind-none, mapRead}
+use Rattle.frame.proofs.Measuring.{Long, long, measured-broken, checks-some}
 
 -- ---- content
 
@@ -86,76 +46,76 @@ module _ (node : List ℕ → Read Schema) (s : List ℕ) where
   enum-checks a b v w =
       let q : Long (readList readText s) s a = long _ _ a v in
       let u : Long (readOption readText (drop a s)) (drop a s) b = long _ _ b w in
-      checks-of schemaSound _ s (a + b) true (omega (arith, q .inside, u .inside, length-drop a s)) (Schema.Enum (q .what) (u .what)) (enum-got (q .what) a (u .what) b (q .read) (u .read)) refl
+      checks-some schemaSound _ s (a + b) true (omega (arith, q .inside, u .inside, length-drop a s)) (Schema.Enum (q .what) (u .what)) (enum-got (q .what) a (u .what) b (q .read) (u .read)) refl
 
   pub enum-broken : (a : ℕ) → Measured (readList readText s) s (len.Of a) → Measured (readOption readText (drop a s)) (drop a s) len.Broken → readSchemaContent node 12 s ≡ none
   enum-broken a v w =
       let q : Long (readList readText s) s a = long _ _ a v in
-      enum-later (q .what) a (q .read) (none-measured _ _ w)
+      enum-later (q .what) a (q .read) (measured-broken _ _ w)
 
   pub fixed-got : 2 ≤ length s → readSchemaContent node 13 s ≡ some (Schema.Fixed (numberAt s 0 2), drop 2 s)
   unfolding readSchemaContent _>>=_
-  fixed-got h = rw (number-got 2 s h)
+  fixed-got h = rw (readNumber-some 2 s h)
 
   pub fixed-none : length s < 2 → readSchemaContent node 13 s ≡ none
   unfolding readSchemaContent _>>=_
-  fixed-none h = rw (number-short 2 s h)
+  fixed-none h = rw (readNumber-none 2 s h)
 
   pub decimal-none : length s < 8 → readSchemaContent node 14 s ≡ none
   unfolding readSchemaContent _>>=_
   decimal-none h = go (leb 4 (length s)) refl
     where
       go : (b : Bool) → leb 4 (length s) ≡ b → readSchemaContent node 14 s ≡ none
-      go true e = rw (number-got 4 s (leb-true 4 (length s) e), number-short 4 (drop 4 s) (omega (arith, length-drop 4 s, leb-true 4 (length s) e)))
-      go false e = rw (number-short 4 s (leb-false 4 (length s) e))
+      go true e = rw (readNumber-some 4 s (leb-true 4 (length s) e), readNumber-none 4 (drop 4 s) (omega (arith, length-drop 4 s, leb-true 4 (length s) e)))
+      go false e = rw (readNumber-none 4 s (leb-false 4 (length s) e))
 
-  decimal-open : 8 ≤ length s → readSchemaContent node 14 s ≡ onto (λ n. Schema.Decimal (numberAt s 0 4) (numberAt s 4 4) n) (readOption (readNumber 2) (drop 8 s))
+  decimal-open : 8 ≤ length s → readSchemaContent node 14 s ≡ mapRead (λ n. Schema.Decimal (numberAt s 0 4) (numberAt s 4 4) n) (readOption (readNumber 2) (drop 8 s))
   unfolding readSchemaContent _>>=_
-  decimal-open h = rw (number-got 4 s (omega arith), number-got 4 (drop 4 s) (omega (arith, length-drop 4 s)), drop-drop 4 4 s)
+  decimal-open h = rw (readNumber-some 4 s (omega arith), readNumber-some 4 (drop 4 s) (omega (arith, length-drop 4 s)), drop-drop 4 4 s)
 
   pub decimal-got : 8 ≤ length s → (n : Option ℕ) (m : ℕ) → readOption (readNumber 2) (drop 8 s) ≡ some (n, drop m (drop 8 s)) → readSchemaContent node 14 s ≡ some (Schema.Decimal (numberAt s 0 4) (numberAt s 4 4) n, drop (8 + m) s)
-  decimal-got h n m e = decimal-open h ∙ bind-some (n, drop m (drop 8 s)) _ e ∙ ap (λ t. some (Schema.Decimal (numberAt s 0 4) (numberAt s 4 4) n, t)) (drop-drop m 8 s)
+  decimal-got h n m e = decimal-open h ∙ bind-some _ _ n (drop m (drop 8 s)) e ∙ ap (λ t. some (Schema.Decimal (numberAt s 0 4) (numberAt s 4 4) n, t)) (drop-drop m 8 s)
 
   pub decimal-checks : 8 ≤ length s → (m : ℕ) → Measured (readOption (readNumber 2) (drop 8 s)) (drop 8 s) (len.Of m) → Checks schemaSound (readSchemaContent node 14 s) s (Of (8 + m) true)
   unfolding schemaSound
   decimal-checks h m w =
       let q : Long (readOption (readNumber 2) (drop 8 s)) (drop 8 s) m = long _ _ m w in
-      checks-of schemaSound _ s (8 + m) true (omega (arith, q .inside, length-drop 8 s)) _ (decimal-got h (q .what) m (q .read)) refl
+      checks-some schemaSound _ s (8 + m) true (omega (arith, q .inside, length-drop 8 s)) _ (decimal-got h (q .what) m (q .read)) refl
 
   pub decimal-later : 8 ≤ length s → readOption (readNumber 2) (drop 8 s) ≡ none → readSchemaContent node 14 s ≡ none
-  decimal-later h e = decimal-open h ∙ bind-none _ e
+  decimal-later h e = decimal-open h ∙ bind-none _ _ e
 
   pub uuid-empty : length s ≡ 0 → readSchemaContent node 15 s ≡ none
   unfolding readSchemaContent readUuidForm _>>=_
-  uuid-empty h = rw (number-short 1 s (omega arith))
+  uuid-empty h = rw (readNumber-none 1 s (omega arith))
 
   pub uuid-bytes : 0 < length s → getD s 0 0 ≡ 0 → readSchemaContent node 15 s ≡ some (Schema.Uuid UuidForm.bytes, drop 1 s)
   unfolding readSchemaContent readUuidForm _>>=_
-  uuid-bytes h e = rw (number-got 1 s h, number-one s h, e)
+  uuid-bytes h e = rw (readNumber-some 1 s h, numberAt-one s 0 h, e)
 
   pub uuid-string : 0 < length s → getD s 0 0 ≡ 1 → readSchemaContent node 15 s ≡ some (Schema.Uuid UuidForm.string, drop 1 s)
   unfolding readSchemaContent readUuidForm _>>=_
-  uuid-string h e = rw (number-got 1 s h, number-one s h, e)
+  uuid-string h e = rw (readNumber-some 1 s h, numberAt-one s 0 h, e)
 
   pub uuid-short : 0 < length s → getD s 0 0 ≡ 2 → length s < 3 → readSchemaContent node 15 s ≡ none
   unfolding readSchemaContent readUuidForm _>>=_
-  uuid-short h e g = rw (number-got 1 s h, number-one s h, e, number-short 2 (drop 1 s) (omega (arith, length-drop 1 s)))
+  uuid-short h e g = rw (readNumber-some 1 s h, numberAt-one s 0 h, e, readNumber-none 2 (drop 1 s) (omega (arith, length-drop 1 s)))
 
   pub uuid-fixed : 3 ≤ length s → getD s 0 0 ≡ 2 → readSchemaContent node 15 s ≡ some (Schema.Uuid (UuidForm.fixed (numberAt s 1 2)), drop 3 s)
   unfolding readSchemaContent readUuidForm _>>=_
-  uuid-fixed h e = rw (number-got 1 s (omega arith), number-one s (omega arith), e, number-got 2 (drop 1 s) (omega (arith, length-drop 1 s)), drop-drop 2 1 s)
+  uuid-fixed h e = rw (readNumber-some 1 s (omega arith), numberAt-one s 0 (omega arith), e, readNumber-some 2 (drop 1 s) (omega (arith, length-drop 1 s)), drop-drop 2 1 s)
 
   pub uuid-other : 0 < length s → (getD s 0 0 ≡ 0 → ⊥) → (getD s 0 0 ≡ 1 → ⊥) → (getD s 0 0 ≡ 2 → ⊥) → readSchemaContent node 15 s ≡ none
   unfolding readSchemaContent readUuidForm _>>=_
-  uuid-other h f g k = rw (number-got 1 s h, number-one s h, ne-eqb _ _ f, ne-eqb _ _ g, ne-eqb _ _ k)
+  uuid-other h f g k = rw (readNumber-some 1 s h, numberAt-one s 0 h, ne-eqb _ _ f, ne-eqb _ _ g, ne-eqb _ _ k)
 
   pub duration-got : 2 ≤ length s → readSchemaContent node 25 s ≡ some (Schema.Duration (numberAt s 0 2), drop 2 s)
   unfolding readSchemaContent _>>=_
-  duration-got h = rw (number-got 2 s h)
+  duration-got h = rw (readNumber-some 2 s h)
 
   pub duration-none : length s < 2 → readSchemaContent node 25 s ≡ none
   unfolding readSchemaContent _>>=_
-  duration-none h = rw (number-short 2 s h)
+  duration-none h = rw (readNumber-none 2 s h)
 
   pub plain-low : (k : ℕ) → k < 8 → readSchemaContent node k s ≡ some (Schema.Plain k, s)
   unfolding readSchemaContent

@@ -2,7 +2,7 @@
 use Prim.Native.Nat.{ℕ, zero, suc, _+_, _-_, _*_, _%_, _≤_, _<_}
 use mathlib.Core.Path.{_≡_, refl, sym, ap, _∙_, subst}
 use mathlib.Core.List.{List, [], _∷_, _++_, append-assoc}
-use mathlib.Core.Option.{none, some}
+use mathlib.Core.Option.{some}
 use mathlib.Core.Bool.{Bool, true, false, _&&_, _||_, not}
 use native.Mathlib.Omega.{arith}
 use lib.Dec.{T, eqb}
@@ -19,10 +19,11 @@ use Rattle.frame.specs.Readers.{readMany, readList}
 use Rattle.frame.specs.SchemaFrame.{fieldsOf, readField}
 use Rattle.frame.specs.Sound.{hasField}
 use Rattle.frame.specs.Checks.{Spans}
+use Rattle.frame.proofs.Reading.{read-what, read-rest, bind-some, reads-some}
+use Rattle.frame.proofs.Measuring.{spans-rest}
+use Rattle.frame.proofs.Counting.{First, many-first, reads-list, Left, left-start, left-first, left-step, left-end}
 use Rattle.schema.specs.Parts.{Field, namesDiffer}
 use Rattle.schema.specs.Slot.{hashFrom, slots, lowOf, highOf, markOf, marked, mayBe, nameMark}
-use Rattle.schema.proofs.Reading.{read-what, read-rest, bind-some}
-use Rattle.schema.proofs.Seeking.{Left, First, many-first, left-start, left-first, left-step, left-end, reads-some, list-long}
 use Rattle.schema.proofs.Checking.{seeks, name-is}
 
 -- ---- slots
@@ -204,16 +205,12 @@ pub many-more : {A : Type 0} (p : List ℕ → Read A) (n : ℕ) (s : List ℕ) 
 unfolding readMany _>>=_
 many-more p zero s xs t a u e g =
     let q : p s ≡ some (a, u) = ap p (read-rest e) ∙ g in
-    bind-some (a, u) _ q ∙ ap (λ l. some (l ++ (a ∷ []), u)) (read-what e)
+    bind-some _ _ a u q ∙ ap (λ l. some (l ++ (a ∷ []), u)) (read-what e)
 many-more p (suc n) s xs t a u e g =
     let w = many-first p (suc n) s xs t (omega arith) e in
     let q : n ≡ suc n - 1 = omega arith in
     let v : readMany p n (w .behind) ≡ some (w .others, t) = ap (λ k. readMany p k (w .behind)) q ∙ w .reads in
-    bind-some (w .item, w .behind) _ (w .first) ∙ bind-some (w .others ++ (a ∷ []), u) _ (many-more p n (w .behind) (w .others) t a u v g) ∙ ap (λ l. some (l ++ (a ∷ []), u)) (sym (w .cons))
-
-spans-behind : {A : Type 0} (x : Read A) (t : List ℕ) (m : ℕ) → Spans x t m → (a : A) (r : List ℕ) → x ≡ some (a, r) → r ≡ drop m t
-unfolding Spans
-spans-behind x t m w a r e = read-rest (sym e ∙ w .1 .1)
+    bind-some _ _ (w .item) (w .behind) (w .first) ∙ bind-some _ _ (w .others ++ (a ∷ [])) u (many-more p n (w .behind) (w .others) t a u v g) ∙ ap (λ l. some (l ++ (a ∷ []), u)) (sym (w .cons))
 
 -- ---- the loop over the fields: what was read, and what is left
 
@@ -230,7 +227,7 @@ module _ (node : List ℕ → Read Schema) (low high : Text → ℕ) (s : List �
   unfolding readMany namesDiffer Taken
   looking-start table n r e = record {
     before = [];
-    rest = left-start _ (readField node) (λ l. l) (λ l. [] ++ l) s 2 n (list-long _ s r) e r (λ l. refl);
+    rest = left-start _ (readField node) (λ l. l) (λ l. [] ++ l) s 2 n (reads-list _ s r) e r (λ l. refl);
     front = refl;
     differ = refl;
     taken-low = tt;
@@ -239,7 +236,7 @@ module _ (node : List ℕ → Read Schema) (low high : Text → ℕ) (s : List �
 
   module _ (table : List ℕ) (left at done : ℕ) (w : Looking node low high s table left at done) where
     pub looking-reads : Reads (readMany (readField node) done (drop 2 s))
-    looking-reads = reads-some _ (w .before) (drop at s) (w .front)
+    looking-reads = reads-some (w .before) (drop at s) (w .front)
 
     free : (key : Text → ℕ) → Taken key table (w .before) → (n : Text) (k v : ℕ) → k ≡ key n → v ≡ nameMark n → mayBe (getD table k 0) v ≡ false → (fs : List Field) (u : List ℕ) → readMany (readField node) done (drop 2 s) ≡ some (fs, u) → seeks n fs ≡ false
     free key t n k v q m e fs u g =
@@ -292,7 +289,7 @@ module _ (node : List ℕ → Read Schema) (low high : Text → ℕ) (s : List �
           one-more = omega arith
 
           behind : next .behind ≡ drop (at + m) s
-          behind = spans-behind _ (drop at s) m z (next .item) (next .behind) (next .first) ∙ drop-drop m at s
+          behind = spans-rest _ (drop at s) m z (next .item) (next .behind) (next .first) ∙ drop-drop m at s
 
       pub looking-step : has ≡ false → (j k x a b : ℕ) → j ≡ low name → k ≡ high name → x ≡ nameMark name → j < length table → k < length table → a ≡ marked (getD table j 0) x → b ≡ marked (getD (set table j a) k 0) x
           → (m : ℕ) → Spans (readField node (drop at s)) (drop at s) m → Looking node low high s (set (set table j a) k b) (left - 1) (at + m) (done + 1)

@@ -4,23 +4,23 @@ use Prim.Native.Nat.{ℕ, zero, suc, _+_, _-_, _*_, _≤_, _<_}
 use mathlib.Core.Path.{_≡_, refl, sym, ap, _∙_, subst}
 use mathlib.Core.List.{List, [], _∷_}
 use mathlib.Core.Option.{none, some}
-use mathlib.Core.Bool.{Bool, true, false}
 use native.Mathlib.Omega.{arith}
-use lib.Dec.{eqb}
 use lib.ListN.{length, drop, getD}
 use lib.Seq.{drop-drop}
-use borrow.Author.Tests.{eqb-true, eqb-false, ne-eqb}
+use borrow.Author.Tests.{ne-eqb}
 use Rattle.number.specs.Number.{numberAt}
 use Rattle.text.specs.Read.{Read, _>>=_, readNumber, readCounted, readText}
 use Rattle.text.specs.Measured.{Reads}
 use Rattle.frame.specs.Tree.{Schema}
-use Rattle.frame.specs.Readers.{readFlag, readMany, readList, readOption}
+use Rattle.frame.specs.Readers.{readMany, readList, readOption}
 use Rattle.frame.specs.ValueFrame.{readValue}
 use Rattle.frame.specs.SchemaFrame.{variantsOf, readField, readLead, readSchemaContent, readSchema}
 use Rattle.frame.specs.Checks.{Spans}
-use Rattle.value.proofs.ReaderLaws.{mapRead, reads-eq, reads-first, reads-behind, reads-flag, not-reads, reads-list, list-many, spans-some, spans-eq, spans-drop, spans-map, spans-after, number-spans, text-spans}
-use Rattle.schema.proofs.Leaves.{option-zero, option-one, option-other}
-use Rattle.schema.proofs.Nodes.{node-deep, node-empty, node-open, array-content, map-content, record-content}
+use Rattle.frame.proofs.Reading.{mapRead, reads-eq, reads-first, option-zero, option-one, option-long, option-is-one}
+use Rattle.frame.proofs.Measuring.{spans-some, spans-eq, spans-drop, spans-map, spans-after, reads-behind, number-spans, text-spans}
+use Rattle.frame.proofs.Counting.{list-many, reads-list}
+use Rattle.frame.proofs.SchemaNodes.{schema-there, schema-opened}
+use Rattle.schema.proofs.Nodes.{array-content, map-content, record-content}
 
 -- ---- two and three things, one behind the other
 
@@ -92,26 +92,18 @@ text-held s t r e h = text-spans s (2 + length t) r (spans-some (readCounted s) 
 -- ---- 00, or 01 and a thing
 
 module _ {A : Type 0} (p : List ℕ → Read A) (s : List ℕ) (r : Reads (readOption p s)) where
-  pub option-long : 1 ≤ length s
-  unfolding readOption
-  option-long = reads-flag s (reads-first (readFlag s) _ r)
-
   pub option-none-spans : getD s 0 0 ≡ 0 → Spans (readOption p s) s 1
-  option-none-spans e = spans-some _ s 1 none option-long (option-zero p s option-long e)
+  option-none-spans e = let h = option-long p s r in spans-some _ s 1 none h (option-zero p s h e)
 
   module _ (f : getD s 0 0 ≡ 0 → ⊥) where
-    flag-one : getD s 0 0 ≡ 1
-    flag-one = go (eqb (getD s 0 0) 1) refl
-      where
-        go : (b : Bool) → eqb (getD s 0 0) 1 ≡ b → getD s 0 0 ≡ 1
-        go true e = eqb-true _ _ e
-        go false e = absurd (not-reads _ (option-other p s option-long f (eqb-false _ _ e)) r)
+    option-open : readOption p s ≡ mapRead some (p (drop 1 s))
+    option-open = option-one p s (option-long p s r) (option-is-one p s r f)
 
     pub option-thing : Reads (p (drop 1 s))
-    option-thing = reads-first (p (drop 1 s)) _ (reads-eq _ _ (option-one p s option-long flag-one) r)
+    option-thing = reads-first (p (drop 1 s)) _ (reads-eq _ _ option-open r)
 
     pub option-some-spans : (m : ℕ) → Spans (p (drop 1 s)) (drop 1 s) m → Spans (readOption p s) s (1 + m)
-    option-some-spans m w = spans-eq _ _ s _ (option-one p s option-long flag-one) (spans-drop _ s 1 m option-long (spans-map some (p (drop 1 s)) (drop 1 s) m w))
+    option-some-spans m w = spans-eq _ _ s _ option-open (spans-drop _ s 1 m (option-long p s r) (spans-map some (p (drop 1 s)) (drop 1 s) m w))
 
 -- ---- the content of a node
 
@@ -198,17 +190,8 @@ module _ (node : List ℕ → Read Schema) (s : List ℕ) where
 -- ---- a node
 
 module _ (d : ℕ) (s : List ℕ) (r : Reads (readSchema d s)) where
-  pub known-depth : d ≡ 0 → ⊥
-  known-depth e = not-reads _ (node-deep d s e) r
-
-  known-empty : length s ≡ 0 → ⊥
-  known-empty e = not-reads _ (node-empty d s e) r
-
-  pub known-byte : 1 ≤ length s
-  known-byte = let z = known-empty in omega arith
-
   pub known-content : Reads (readSchemaContent (readSchema (d - 1)) (getD s 0 0) (drop 1 s))
-  known-content = reads-eq _ _ (node-open d s known-depth known-empty) r
+  known-content = reads-eq _ _ (schema-opened d s r _ refl) r
 
   pub schema-spans : (n : ℕ) → Spans (readSchemaContent (readSchema (d - 1)) (getD s 0 0) (drop 1 s)) (drop 1 s) n → Spans (readSchema d s) s (1 + n)
-  schema-spans n w = spans-eq _ _ s _ (node-open d s known-depth known-empty) (spans-drop _ s 1 n known-byte w)
+  schema-spans n w = spans-eq _ _ s _ (schema-opened d s r _ refl) (spans-drop _ s 1 n (schema-there d s r .1) w)

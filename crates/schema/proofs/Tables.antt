@@ -1,9 +1,9 @@
 -- The loops over the two tables of a union.
-use Prim.Native.Nat.{ℕ, zero, suc, _+_, _-_, _≤_, _<_}
+use Prim.Native.Nat.{ℕ, suc, _+_, _-_, _≤_, _<_}
 use mathlib.Core.Path.{_≡_, refl, sym, ap, _∙_}
 use mathlib.Core.List.{List}
 use mathlib.Core.Option.{none, some}
-use mathlib.Core.Bool.{Bool, true, false, _&&_}
+use mathlib.Core.Bool.{Bool, true, false, _&&_, and-assoc}
 use native.Mathlib.Omega.{arith}
 use native.Mathlib.Numerals.{add-one}
 use native.Mathlib.Nat.{add-zero}
@@ -13,22 +13,24 @@ use lib.Seq.{drop-drop, getD-drop}
 use borrow.Author.Tests.{leb-true, leb-false}
 use Rattle.number.specs.Number.{bigEndian, numberAt}
 use Rattle.text.specs.Read.{_>>=_, readNumber}
+use Rattle.text.proofs.ReadLaws.{readNumber-some, readNumber-none}
+use Rattle.number.proofs.Laws.{numberAt-one}
 use Rattle.frame.specs.Readers.{readList}
 use Rattle.frame.specs.SchemaFrame.{readLead}
 use Rattle.frame.specs.Sound.{kindsSound, positionsSound}
-use Rattle.schema.proofs.Reading.{Going, going-step, number-got, number-short, number-one, and-assoc}
+use Rattle.frame.proofs.Counting.{Going, going-step}
 
 pub lead-short : (s : List ℕ) → length s < 3 → readLead s ≡ none
 unfolding readLead _>>=_
 lead-short s h = go (leb 1 (length s)) refl
   where
     go : (b : Bool) → leb 1 (length s) ≡ b → readLead s ≡ none
-    go true e = rw (number-got 1 s (leb-true 1 (length s) e), number-short 2 (drop 1 s) (omega (arith, length-drop 1 s, leb-true 1 (length s) e)))
-    go false e = rw (number-short 1 s (leb-false 1 (length s) e))
+    go true e = rw (readNumber-some 1 s (leb-true 1 (length s) e), readNumber-none 2 (drop 1 s) (omega (arith, length-drop 1 s, leb-true 1 (length s) e)))
+    go false e = rw (readNumber-none 1 s (leb-false 1 (length s) e))
 
 pub lead-got : (s : List ℕ) → 3 ≤ length s → readLead s ≡ some ((getD s 0 0, numberAt s 1 2), drop 3 s)
 unfolding readLead _>>=_
-lead-got s h = rw (number-got 1 s (omega arith), number-got 2 (drop 1 s) (omega (arith, length-drop 1 s)), number-one s (omega arith), drop-drop 2 1 s)
+lead-got s h = rw (readNumber-some 1 s (omega arith), readNumber-some 2 (drop 1 s) (omega (arith, length-drop 1 s)), numberAt-one s 0 (omega arith), drop-drop 2 1 s)
 
 pub leads-step : (count : ℕ) (s : List ℕ) (at left least : ℕ) (ok : Bool) → Going (readList readLead s) readLead (kindsSound count 0) s at left ok (kindsSound count least)
     → 0 < left → 3 ≤ length s - at → (k p : ℕ) → k ≡ getD s at 0 → p ≡ numberAt s (at + 1) 2 → (fine ok' : Bool) → fine ≡ leb least k && leb k 25 && ltb p count → ok' ≡ ok && fine
@@ -49,6 +51,6 @@ pub positions-step : (count : ℕ) (s : List ℕ) (at left : ℕ) (ok : Bool) �
 unfolding positionsSound
 positions-step count s at left ok w h g p ep fine ok' ef eo =
     going-step _ (readNumber 2) (positionsSound count) s at left ok (positionsSound count) w h 2 (omega (arith, length-drop at s)) p
-    (number-got 2 (drop at s) (omega (arith, length-drop at s)) ∙ ap (λ q. some (q, drop 2 (drop at s))) (sym ep))
+    (readNumber-some 2 (drop at s) (omega (arith, length-drop at s)) ∙ ap (λ q. some (q, drop 2 (drop at s))) (sym ep))
     ok' (positionsSound count)
     (λ l. ap (λ y. ok && (y && positionsSound count l)) (sym ef) ∙ sym (and-assoc ok fine (positionsSound count l)) ∙ ap (λ y. y && positionsSound count l) (sym eo))

@@ -2,10 +2,10 @@
 use crate::default::default_check;
 use crate::leaf::leaf_check;
 use crate::names::names_differ;
-use crate::part::both;
 use crate::table::leads_check;
 use crate::table::positions_check;
 use frame::Checked;
+use frame::both;
 use number::read2;
 use text::Len;
 use text::text_len;

@@ -1,6 +1,6 @@
 // The default of a field: a value of the kinds that are allowed there, its map keys rising.
-use crate::part::both;
 use frame::Checked;
+use frame::both;
 use number::read2;
 use number::read8;
 use value::value_check;

@@ -3,7 +3,6 @@ mod check;
 mod default;
 mod leaf;
 mod names;
-mod part;
 mod plain;
 mod skip;
 mod table;

@@ -1,6 +1,6 @@
 // The two tables of a union: its leading kinds and its named positions.
-use crate::part::both;
 use frame::Checked;
+use frame::both;
 use number::read2;
 ghost use mathlib.Core.Path.{_≡_};
 ghost use mathlib.Core.Bool.{_&&_};

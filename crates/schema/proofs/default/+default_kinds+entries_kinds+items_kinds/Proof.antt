@@ -1,17 +1,19 @@
 -- The cycle of `default_kinds`, `entries_kinds`, `items_kinds` in `schema::default` meets its contracts. Assumes nothing.
 use borrow.Author.Needs.{needs}
 use native.Mathlib.Omega.{arith}
-use Prim.Native.Nat.{ℕ, _+_, _-_, _*_, _<_}
+use Prim.Native.Nat.{ℕ, _+_, _*_, _<_}
 use mathlib.Core.Path.{refl, sym, ap, _∙_}
-use mathlib.Core.Bool.{true, not, _&&_}
-use lib.ListN.{length, drop, length-drop}
+use mathlib.Core.Bool.{true, not, and-true}
+use lib.ListN.{drop, length-drop}
 use Rattle.scalar.specs.Conversion.{inInt, finiteDouble}
 use Rattle.frame.specs.Readers.{readMany, readList}
 use Rattle.frame.specs.ValueFrame.{itemsOf, entriesOf, readEntry, readValue}
-use Rattle.frame.specs.Sound.{defaultKinds, defaultItems, defaultEntries}
-use Rattle.schema.proofs.Reading.{tail, list-got, and-true}
-use Rattle.schema.proofs.Seeking.{Left, left-start, left-reads, left-end, list-long, spans-inside}
-use Rattle.schema.proofs.Defaults.{value-deep, value-long, other-kinds, long-there, double-there, long-says, double-says, string-says, array-reads, map-reads, array-says, map-says, itemsKinds, items-step, entriesKinds, key-reads, entry-reads, entries-step}
+use Rattle.frame.specs.Sound.{defaultItems, defaultEntries}
+use Rattle.frame.proofs.Reading.{suffix}
+use Rattle.frame.proofs.Measuring.{spans-le}
+use Rattle.frame.proofs.Counting.{list-many, reads-list, Left, left-start, left-reads, left-end}
+use Rattle.frame.proofs.ValueNodes.{value-there}
+use Rattle.schema.proofs.Defaults.{other-kinds, long-there, double-there, long-says, double-says, string-says, array-reads, map-reads, array-says, map-says, itemsKinds, items-step, entriesKinds, key-reads, entry-reads, entries-step}
 use borrow.Fn.Kinds.{In}
 use borrow.Fn.PlainCycle.{Measures, is, falls, and}
 use Rattle.schema.proofs.default.default_kinds.Reads as default-kinds
@@ -27,7 +29,7 @@ use Rattle.number.proofs.read2.Reads as read2-reads
 use Rattle.number.proofs.read8.Reads as read8-reads
 use Rattle.schema.proofs.default.is_finite.Reads as is-finite-reads
 use Rattle.schema.proofs.default.outside_int.Reads as outside-int-reads
-use Rattle.schema.proofs.part.both.Reads as both-reads
+use Rattle.frame.proofs.both.Reads as both-reads
 use Rattle.text.proofs.content.Reads as content-reads
 use Rattle.value.proofs.value_len.Reads as value-len-reads
 use Rattle.schema.proofs.default.+default_kinds+entries_kinds+items_kinds.{statement}
@@ -84,7 +86,7 @@ abbrev items-kinds-claims : ℕ → items-kinds-lts.Claims
 items-kinds-claims t = (read2-reads.Asked, read2-reads.Learnt, default-kinds-below t, default-kinds.Post, both-reads.Asked, both-reads.Learnt, value-len-reads.Asked, value-len-reads.Learnt)
 
 default-kinds-shared-slice-read-kind : (t : ℕ) → default-kinds-lts.Need-shared-slice-read-kind (default-kinds-claims t) (default-kinds-at t) default-kinds.Post
-default-kinds-shared-slice-read-kind t c = value-long _ _ (c .before .before .pre .1)
+default-kinds-shared-slice-read-kind t c = value-there _ _ (c .before .before .pre .1) .1
 
 default-kinds-read8-requires : (t : ℕ) → default-kinds-lts.Need-read8-requires (default-kinds-claims t) (default-kinds-at t) default-kinds.Post
 default-kinds-read8-requires t c κs = long-there _ _ (c .before .before .before .pre .1) (c .if1 .taken)
@@ -102,34 +104,34 @@ default-kinds-returns-3 : (t : ℕ) → default-kinds-lts.Need-returns-3 (defaul
 default-kinds-returns-3 t c = string-says _ _ (c .before .before .before .before .before .pre .1) (c .if3 .taken)
 
 default-kinds-sub-items-kinds : (t : ℕ) → default-kinds-lts.Need-sub-items-kinds (default-kinds-claims t) (default-kinds-at t) default-kinds.Post
-default-kinds-sub-items-kinds t c = omega (arith, value-long _ _ (c .before .before .before .before .before .before .pre .1))
+default-kinds-sub-items-kinds t c = omega (arith, value-there _ _ (c .before .before .before .before .before .before .pre .1) .1)
 
 default-kinds-part-items-kinds-start : (t : ℕ) → default-kinds-lts.Need-part-items-kinds-start (default-kinds-claims t) (default-kinds-at t) default-kinds.Post
-default-kinds-part-items-kinds-start t c = omega (arith, value-long _ _ (c .before .before .before .before .before .before .pre .1))
+default-kinds-part-items-kinds-start t c = omega (arith, value-there _ _ (c .before .before .before .before .before .before .pre .1) .1)
 
 default-kinds-sub-items-kinds-2 : (t : ℕ) → default-kinds-lts.Need-sub-items-kinds-2 (default-kinds-claims t) (default-kinds-at t) default-kinds.Post
-default-kinds-sub-items-kinds-2 t c = omega (arith, value-deep _ _ (c .before .before .before .before .before .before .before .pre .1))
+default-kinds-sub-items-kinds-2 t c = omega (arith, value-there _ _ (c .before .before .before .before .before .before .before .pre .1) .0)
 
 default-kinds-items-kinds-requires : (t : ℕ) → default-kinds-lts.Need-items-kinds-requires (default-kinds-claims t) (default-kinds-at t) default-kinds.Post
-default-kinds-items-kinds-requires t c κs = (omega (arith, c .before .before .before .before .before .before .before .pre .0, value-deep _ _ (c .before .before .before .before .before .before .before .pre .1)), rw tail (array-reads _ _ (c .before .before .before .before .before .before .before .pre .1) (c .before .if4 .taken)))
+default-kinds-items-kinds-requires t c κs = (omega (arith, c .before .before .before .before .before .before .before .pre .0, value-there _ _ (c .before .before .before .before .before .before .before .pre .1) .0), rw suffix (array-reads _ _ (c .before .before .before .before .before .before .before .pre .1) (c .before .if4 .taken)))
 
 default-kinds-returns-4 : (t : ℕ) → default-kinds-lts.Need-returns-4 (default-kinds-claims t) (default-kinds-at t) default-kinds.Post
-default-kinds-returns-4 t c = array-says _ _ (c .before .before .before .before .before .before .before .before .pre .1) (c .before .before .if4 .taken) _ (rw tail at (c .items-kinds .ensures))
+default-kinds-returns-4 t c = array-says _ _ (c .before .before .before .before .before .before .before .before .pre .1) (c .before .before .if4 .taken) _ (rw suffix at (c .items-kinds .ensures))
 
 default-kinds-sub-entries-kinds : (t : ℕ) → default-kinds-lts.Need-sub-entries-kinds (default-kinds-claims t) (default-kinds-at t) default-kinds.Post
-default-kinds-sub-entries-kinds t c = omega (arith, value-long _ _ (c .before .before .before .before .before .before .before .pre .1))
+default-kinds-sub-entries-kinds t c = omega (arith, value-there _ _ (c .before .before .before .before .before .before .before .pre .1) .1)
 
 default-kinds-part-entries-kinds-start : (t : ℕ) → default-kinds-lts.Need-part-entries-kinds-start (default-kinds-claims t) (default-kinds-at t) default-kinds.Post
-default-kinds-part-entries-kinds-start t c = omega (arith, value-long _ _ (c .before .before .before .before .before .before .before .pre .1))
+default-kinds-part-entries-kinds-start t c = omega (arith, value-there _ _ (c .before .before .before .before .before .before .before .pre .1) .1)
 
 default-kinds-sub-entries-kinds-2 : (t : ℕ) → default-kinds-lts.Need-sub-entries-kinds-2 (default-kinds-claims t) (default-kinds-at t) default-kinds.Post
-default-kinds-sub-entries-kinds-2 t c = omega (arith, value-deep _ _ (c .before .before .before .before .before .before .before .before .pre .1))
+default-kinds-sub-entries-kinds-2 t c = omega (arith, value-there _ _ (c .before .before .before .before .before .before .before .before .pre .1) .0)
 
 default-kinds-entries-kinds-requires : (t : ℕ) → default-kinds-lts.Need-entries-kinds-requires (default-kinds-claims t) (default-kinds-at t) default-kinds.Post
-default-kinds-entries-kinds-requires t c κs = (omega (arith, c .before .before .before .before .before .before .before .before .pre .0, value-deep _ _ (c .before .before .before .before .before .before .before .before .pre .1)), rw tail (map-reads _ _ (c .before .before .before .before .before .before .before .before .pre .1) (c .before .if5 .taken)))
+default-kinds-entries-kinds-requires t c κs = (omega (arith, c .before .before .before .before .before .before .before .before .pre .0, value-there _ _ (c .before .before .before .before .before .before .before .before .pre .1) .0), rw suffix (map-reads _ _ (c .before .before .before .before .before .before .before .before .pre .1) (c .before .if5 .taken)))
 
 default-kinds-returns-5 : (t : ℕ) → default-kinds-lts.Need-returns-5 (default-kinds-claims t) (default-kinds-at t) default-kinds.Post
-default-kinds-returns-5 t c = map-says _ _ (c .before .before .before .before .before .before .before .before .before .pre .1) (c .before .before .if5 .taken) _ (rw tail at (c .entries-kinds .ensures))
+default-kinds-returns-5 t c = map-says _ _ (c .before .before .before .before .before .before .before .before .before .pre .1) (c .before .before .if5 .taken) _ (rw suffix at (c .entries-kinds .ensures))
 
 default-kinds-returns-6 : (t : ℕ) → default-kinds-lts.Need-returns-6 (default-kinds-claims t) (default-kinds-at t) default-kinds.Post
 default-kinds-returns-6 t c = other-kinds _ _ (c .before .before .before .before .before .before .before .pre .1) (c .before .before .before .before .if1 .left) (c .before .before .before .if2 .left) (c .before .before .if3 .left) (c .before .if4 .left) (c .if5 .left)
@@ -141,13 +143,13 @@ abbrev entries-kinds-μ-loop : entries-kinds-lts.MeasureT-loop
 entries-kinds-μ-loop s depth left₀ at₀ ok₀ left at ok = left
 
 entries-kinds-read2-requires : (t : ℕ) → entries-kinds-lts.Need-read2-requires (entries-kinds-claims t) (entries-kinds-at t) entries-kinds.Post entries-kinds-Inv-loop entries-kinds-μ-loop
-entries-kinds-read2-requires t c κs = list-long _ _ (c .before .pre .1)
+entries-kinds-read2-requires t c κs = reads-list _ _ (c .before .pre .1)
 
 entries-kinds-cast-left : (t : ℕ) → entries-kinds-lts.Need-cast-left (entries-kinds-claims t) (entries-kinds-at t) entries-kinds.Post entries-kinds-Inv-loop entries-kinds-μ-loop
 entries-kinds-cast-left t c = omega (arith, c .read2 .ok)
 
 entries-kinds-loop-holds : (t : ℕ) → entries-kinds-lts.Need-loop-holds (entries-kinds-claims t) (entries-kinds-at t) entries-kinds.Post entries-kinds-Inv-loop entries-kinds-μ-loop
-entries-kinds-loop-holds t c = left-start _ (readEntry (readValue (c .before .before .args .depth))) (λ es. defaultEntries (entriesOf es)) (entriesKinds true) (c .before .before .args .s .now) 2 _ (list-long _ _ (c .before .before .pre .1)) (list-got _ _ (list-long _ _ (c .before .before .pre .1)) ∙ ap (λ k. readMany (readEntry (readValue (c .before .before .args .depth))) k (drop 2 (c .before .before .args .s .now))) (sym (c .read2 .ensures))) (c .before .before .pre .1) (λ l. refl)
+entries-kinds-loop-holds t c = left-start _ (readEntry (readValue (c .before .before .args .depth))) (λ es. defaultEntries (entriesOf es)) (entriesKinds true) (c .before .before .args .s .now) 2 _ (reads-list _ _ (c .before .before .pre .1)) (list-many _ _ (reads-list _ _ (c .before .before .pre .1)) ∙ ap (λ k. readMany (readEntry (readValue (c .before .before .args .depth))) k (drop 2 (c .before .before .args .s .now))) (sym (c .read2 .ensures))) (c .before .before .pre .1) (λ l. refl)
 
 entries-kinds-sub-content : (t : ℕ) → entries-kinds-lts.Need-sub-content (entries-kinds-claims t) (entries-kinds-at t) entries-kinds.Post entries-kinds-Inv-loop entries-kinds-μ-loop
 entries-kinds-sub-content t c = omega (arith, c .before .loop .inv .inside)
@@ -156,37 +158,37 @@ entries-kinds-part-content-start : (t : ℕ) → entries-kinds-lts.Need-part-con
 entries-kinds-part-content-start t c = omega (arith, c .before .loop .inv .inside)
 
 entries-kinds-content-requires : (t : ℕ) → entries-kinds-lts.Need-content-requires (entries-kinds-claims t) (entries-kinds-at t) entries-kinds.Post entries-kinds-Inv-loop entries-kinds-μ-loop
-entries-kinds-content-requires t c κs = rw tail (key-reads _ _ _ _ (c .before .before .loop .ok) (c .before .before .loop .inv) (c .before .loop-test .taken))
+entries-kinds-content-requires t c κs = rw suffix (key-reads _ _ _ _ (c .before .before .loop .ok) (c .before .before .loop .inv) (c .before .loop-test .taken))
 
 entries-kinds-add-n : (t : ℕ) → entries-kinds-lts.Need-add-n (entries-kinds-claims t) (entries-kinds-at t) entries-kinds.Post entries-kinds-Inv-loop entries-kinds-μ-loop
 entries-kinds-add-n t c = omega (arith, c .content .ensures .1 .1)
 
 entries-kinds-add-e : (t : ℕ) → entries-kinds-lts.Need-add-e (entries-kinds-claims t) (entries-kinds-at t) entries-kinds.Post entries-kinds-Inv-loop entries-kinds-μ-loop
-entries-kinds-add-e t c = omega (arith, simp length-drop at (rw tail at (c .content .ensures .1 .0)), c .before .before .before .loop .inv .inside, c .before .before .before .before .before .before .good)
+entries-kinds-add-e t c = omega (arith, simp length-drop at (rw suffix at (c .content .ensures .1 .0)), c .before .before .before .loop .inv .inside, c .before .before .before .before .before .before .good)
 
 entries-kinds-sub-default-kinds : (t : ℕ) → entries-kinds-lts.Need-sub-default-kinds (entries-kinds-claims t) (entries-kinds-at t) entries-kinds.Post entries-kinds-Inv-loop entries-kinds-μ-loop
-entries-kinds-sub-default-kinds t c = omega (arith, simp length-drop at (rw tail at (c .content .ensures .1 .0)), c .before .before .before .loop .inv .inside)
+entries-kinds-sub-default-kinds t c = omega (arith, simp length-drop at (rw suffix at (c .content .ensures .1 .0)), c .before .before .before .loop .inv .inside)
 
 entries-kinds-part-default-kinds-start : (t : ℕ) → entries-kinds-lts.Need-part-default-kinds-start (entries-kinds-claims t) (entries-kinds-at t) entries-kinds.Post entries-kinds-Inv-loop entries-kinds-μ-loop
-entries-kinds-part-default-kinds-start t c = omega (arith, simp length-drop at (rw tail at (c .content .ensures .1 .0)), c .before .before .before .loop .inv .inside)
+entries-kinds-part-default-kinds-start t c = omega (arith, simp length-drop at (rw suffix at (c .content .ensures .1 .0)), c .before .before .before .loop .inv .inside)
 
 entries-kinds-default-kinds-requires : (t : ℕ) → entries-kinds-lts.Need-default-kinds-requires (entries-kinds-claims t) (entries-kinds-at t) entries-kinds.Post entries-kinds-Inv-loop entries-kinds-μ-loop
-entries-kinds-default-kinds-requires t c κs = (omega (arith, c .before .before .before .before .before .before .before .pre .0), rw tail (entry-reads _ _ _ _ (c .before .before .before .before .loop .ok) (c .before .before .before .before .loop .inv) (c .before .before .before .loop-test .taken) _ (rw tail at (c .before .content .ensures .0))))
+entries-kinds-default-kinds-requires t c κs = (omega (arith, c .before .before .before .before .before .before .before .pre .0), rw suffix (entry-reads _ _ _ _ (c .before .before .before .before .loop .ok) (c .before .before .before .before .loop .inv) (c .before .before .before .loop-test .taken) _ (rw suffix at (c .before .content .ensures .0))))
 
 entries-kinds-sub-value-len : (t : ℕ) → entries-kinds-lts.Need-sub-value-len (entries-kinds-claims t) (entries-kinds-at t) entries-kinds.Post entries-kinds-Inv-loop entries-kinds-μ-loop
-entries-kinds-sub-value-len t c = omega (arith, simp length-drop at (rw tail at (c .before .before .before .content .ensures .1 .0)), c .before .before .before .before .before .before .loop .inv .inside)
+entries-kinds-sub-value-len t c = omega (arith, simp length-drop at (rw suffix at (c .before .before .before .content .ensures .1 .0)), c .before .before .before .before .before .before .loop .inv .inside)
 
 entries-kinds-part-value-len-start : (t : ℕ) → entries-kinds-lts.Need-part-value-len-start (entries-kinds-claims t) (entries-kinds-at t) entries-kinds.Post entries-kinds-Inv-loop entries-kinds-μ-loop
-entries-kinds-part-value-len-start t c = omega (arith, simp length-drop at (rw tail at (c .before .before .before .content .ensures .1 .0)), c .before .before .before .before .before .before .loop .inv .inside)
+entries-kinds-part-value-len-start t c = omega (arith, simp length-drop at (rw suffix at (c .before .before .before .content .ensures .1 .0)), c .before .before .before .before .before .before .loop .inv .inside)
 
 entries-kinds-value-len-requires : (t : ℕ) → entries-kinds-lts.Need-value-len-requires (entries-kinds-claims t) (entries-kinds-at t) entries-kinds.Post entries-kinds-Inv-loop entries-kinds-μ-loop
-entries-kinds-value-len-requires t c κs = rw tail (entry-reads _ _ _ _ (c .before .before .before .before .before .before .before .loop .ok) (c .before .before .before .before .before .before .before .loop .inv) (c .before .before .before .before .before .before .loop-test .taken) _ (rw tail at (c .before .before .before .before .content .ensures .0)))
+entries-kinds-value-len-requires t c κs = rw suffix (entry-reads _ _ _ _ (c .before .before .before .before .before .before .before .loop .ok) (c .before .before .before .before .before .before .before .loop .inv) (c .before .before .before .before .before .before .loop-test .taken) _ (rw suffix at (c .before .before .before .before .content .ensures .0)))
 
 entries-kinds-add-at : (t : ℕ) → entries-kinds-lts.Need-add-at (entries-kinds-claims t) (entries-kinds-at t) entries-kinds.Post entries-kinds-Inv-loop entries-kinds-μ-loop
-entries-kinds-add-at t c = omega (arith, simp length-drop at (spans-inside _ _ _ (rw tail at (c .value-len .ensures))), simp length-drop at (rw tail at (c .before .before .before .before .before .content .ensures .1 .0)), c .before .before .before .before .before .before .before .before .loop .inv .inside, c .before .before .before .before .before .before .before .before .before .before .before .good)
+entries-kinds-add-at t c = omega (arith, simp length-drop at (spans-le _ _ _ (rw suffix at (c .value-len .ensures))), simp length-drop at (rw suffix at (c .before .before .before .before .before .content .ensures .1 .0)), c .before .before .before .before .before .before .before .before .loop .inv .inside, c .before .before .before .before .before .before .before .before .before .before .before .good)
 
 entries-kinds-loop-again : (t : ℕ) → entries-kinds-lts.Need-loop-again (entries-kinds-claims t) (entries-kinds-at t) entries-kinds.Post entries-kinds-Inv-loop entries-kinds-μ-loop
-entries-kinds-loop-again t c = entries-step _ _ _ _ (c .before .before .before .before .before .before .before .before .loop .ok) (c .before .before .before .before .before .before .before .before .loop .inv) (c .before .before .before .before .before .before .before .loop-test .taken) _ (rw tail at (c .before .before .before .before .before .content .ensures .0)) (rw tail at (c .before .before .before .before .before .content .ensures .1 .0)) _ _ (rw tail at (c .before .before .before .default-kinds .ensures)) (c .before .before .both .ensures) _ (rw tail at (c .value-len .ensures))
+entries-kinds-loop-again t c = entries-step _ _ _ _ (c .before .before .before .before .before .before .before .before .loop .ok) (c .before .before .before .before .before .before .before .before .loop .inv) (c .before .before .before .before .before .before .before .loop-test .taken) _ (rw suffix at (c .before .before .before .before .before .content .ensures .0)) (rw suffix at (c .before .before .before .before .before .content .ensures .1 .0)) _ _ (rw suffix at (c .before .before .before .default-kinds .ensures)) (c .before .before .both .ensures) _ (rw suffix at (c .value-len .ensures))
 
 entries-kinds-returns : (t : ℕ) → entries-kinds-lts.Need-returns (entries-kinds-claims t) (entries-kinds-at t) entries-kinds.Post entries-kinds-Inv-loop entries-kinds-μ-loop
 unfolding defaultEntries entriesOf
@@ -199,13 +201,13 @@ abbrev items-kinds-μ-loop : items-kinds-lts.MeasureT-loop
 items-kinds-μ-loop s depth left₀ at₀ ok₀ left at ok = left
 
 items-kinds-read2-requires : (t : ℕ) → items-kinds-lts.Need-read2-requires (items-kinds-claims t) (items-kinds-at t) items-kinds.Post items-kinds-Inv-loop items-kinds-μ-loop
-items-kinds-read2-requires t c κs = list-long _ _ (c .before .pre .1)
+items-kinds-read2-requires t c κs = reads-list _ _ (c .before .pre .1)
 
 items-kinds-cast-left : (t : ℕ) → items-kinds-lts.Need-cast-left (items-kinds-claims t) (items-kinds-at t) items-kinds.Post items-kinds-Inv-loop items-kinds-μ-loop
 items-kinds-cast-left t c = omega (arith, c .read2 .ok)
 
 items-kinds-loop-holds : (t : ℕ) → items-kinds-lts.Need-loop-holds (items-kinds-claims t) (items-kinds-at t) items-kinds.Post items-kinds-Inv-loop items-kinds-μ-loop
-items-kinds-loop-holds t c = left-start _ (readValue (c .before .before .args .depth)) (λ vs. defaultItems (itemsOf vs)) (itemsKinds true) (c .before .before .args .s .now) 2 _ (list-long _ _ (c .before .before .pre .1)) (list-got _ _ (list-long _ _ (c .before .before .pre .1)) ∙ ap (λ k. readMany (readValue (c .before .before .args .depth)) k (drop 2 (c .before .before .args .s .now))) (sym (c .read2 .ensures))) (c .before .before .pre .1) (λ l. refl)
+items-kinds-loop-holds t c = left-start _ (readValue (c .before .before .args .depth)) (λ vs. defaultItems (itemsOf vs)) (itemsKinds true) (c .before .before .args .s .now) 2 _ (reads-list _ _ (c .before .before .pre .1)) (list-many _ _ (reads-list _ _ (c .before .before .pre .1)) ∙ ap (λ k. readMany (readValue (c .before .before .args .depth)) k (drop 2 (c .before .before .args .s .now))) (sym (c .read2 .ensures))) (c .before .before .pre .1) (λ l. refl)
 
 items-kinds-sub-default-kinds : (t : ℕ) → items-kinds-lts.Need-sub-default-kinds (items-kinds-claims t) (items-kinds-at t) items-kinds.Post items-kinds-Inv-loop items-kinds-μ-loop
 items-kinds-sub-default-kinds t c = omega (arith, c .before .loop .inv .inside)
@@ -214,7 +216,7 @@ items-kinds-part-default-kinds-start : (t : ℕ) → items-kinds-lts.Need-part-d
 items-kinds-part-default-kinds-start t c = omega (arith, c .before .loop .inv .inside)
 
 items-kinds-default-kinds-requires : (t : ℕ) → items-kinds-lts.Need-default-kinds-requires (items-kinds-claims t) (items-kinds-at t) items-kinds.Post items-kinds-Inv-loop items-kinds-μ-loop
-items-kinds-default-kinds-requires t c κs = (omega (arith, c .before .before .before .before .before .pre .0), rw tail (left-reads _ _ _ _ _ _ _ (c .before .before .loop .inv) (c .before .loop-test .taken)))
+items-kinds-default-kinds-requires t c κs = (omega (arith, c .before .before .before .before .before .pre .0), rw suffix (left-reads _ _ _ _ _ _ _ (c .before .before .loop .inv) (c .before .loop-test .taken)))
 
 items-kinds-sub-value-len : (t : ℕ) → items-kinds-lts.Need-sub-value-len (items-kinds-claims t) (items-kinds-at t) items-kinds.Post items-kinds-Inv-loop items-kinds-μ-loop
 items-kinds-sub-value-len t c = omega (arith, c .before .before .before .before .loop .inv .inside)
@@ -223,13 +225,13 @@ items-kinds-part-value-len-start : (t : ℕ) → items-kinds-lts.Need-part-value
 items-kinds-part-value-len-start t c = omega (arith, c .before .before .before .before .loop .inv .inside)
 
 items-kinds-value-len-requires : (t : ℕ) → items-kinds-lts.Need-value-len-requires (items-kinds-claims t) (items-kinds-at t) items-kinds.Post items-kinds-Inv-loop items-kinds-μ-loop
-items-kinds-value-len-requires t c κs = rw tail (left-reads _ _ _ _ _ _ _ (c .before .before .before .before .before .loop .inv) (c .before .before .before .before .loop-test .taken))
+items-kinds-value-len-requires t c κs = rw suffix (left-reads _ _ _ _ _ _ _ (c .before .before .before .before .before .loop .inv) (c .before .before .before .before .loop-test .taken))
 
 items-kinds-add-at : (t : ℕ) → items-kinds-lts.Need-add-at (items-kinds-claims t) (items-kinds-at t) items-kinds.Post items-kinds-Inv-loop items-kinds-μ-loop
-items-kinds-add-at t c = omega (arith, spans-inside _ _ _ (rw tail at (c .value-len .ensures)), length-drop (c .before .before .before .before .before .before .loop .at) (c .before .before .before .before .before .before .before .before .before .args .s .now), c .before .before .before .before .before .before .before .before .before .good, c .before .before .before .before .before .before .loop .inv .inside)
+items-kinds-add-at t c = omega (arith, spans-le _ _ _ (rw suffix at (c .value-len .ensures)), length-drop (c .before .before .before .before .before .before .loop .at) (c .before .before .before .before .before .before .before .before .before .args .s .now), c .before .before .before .before .before .before .before .before .before .good, c .before .before .before .before .before .before .loop .inv .inside)
 
 items-kinds-loop-again : (t : ℕ) → items-kinds-lts.Need-loop-again (items-kinds-claims t) (items-kinds-at t) items-kinds.Post items-kinds-Inv-loop items-kinds-μ-loop
-items-kinds-loop-again t c = items-step _ _ _ _ (c .before .before .before .before .before .before .loop .ok) (c .before .before .before .before .before .before .loop .inv) (c .before .before .before .before .before .loop-test .taken) _ _ (rw tail at (c .before .before .before .default-kinds .ensures)) (c .before .before .both .ensures) _ (rw tail at (c .value-len .ensures))
+items-kinds-loop-again t c = items-step _ _ _ _ (c .before .before .before .before .before .before .loop .ok) (c .before .before .before .before .before .before .loop .inv) (c .before .before .before .before .before .loop-test .taken) _ _ (rw suffix at (c .before .before .before .default-kinds .ensures)) (c .before .before .both .ensures) _ (rw suffix at (c .value-len .ensures))
 
 items-kinds-returns : (t : ℕ) → items-kinds-lts.Need-returns (items-kinds-claims t) (items-kinds-at t) items-kinds.Post items-kinds-Inv-loop items-kinds-μ-loop
 unfolding defaultItems itemsOf

@@ -1,5 +1,4 @@
 -- `schema::default::is_finite` meets its contract. Assumes nothing.
-use borrow.Author.Needs.{needs}
 use mathlib.Core.Path.{refl}
 use Rattle.scalar.specs.Conversion.{finiteDouble}
 use Rattle.schema.proofs.default.is_finite.Statement.{statement}

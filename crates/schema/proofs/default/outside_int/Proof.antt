@@ -1,5 +1,4 @@
 -- `schema::default::outside_int` meets its contract. Assumes nothing.
-use borrow.Author.Needs.{needs}
 use borrow.Author.Tests.{lt-ltb, le-ltb}
 use Rattle.scalar.specs.Conversion.{inInt}
 use Rattle.schema.proofs.Defaults.{below-not}

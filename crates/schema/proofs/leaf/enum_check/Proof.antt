@@ -1,14 +1,10 @@
 -- `schema::leaf::enum_check` meets its contract. Assumes nothing.
 use borrow.Author.Needs.{needs}
 use native.Mathlib.Omega.{arith}
-use mathlib.Core.Path.{refl, ap}
-use lib.Dec.{eqb}
-use lib.ListN.{length, drop, length-drop}
-use Rattle.text.specs.Read.{readNumber, readText}
-use Rattle.frame.specs.Readers.{readList, readOption}
-use Rattle.frame.specs.Sound.{schemaSound, uuidSizeSound}
-use Rattle.schema.proofs.Reading.{Walking, walking-step, walking-none, walking-end, going-list, list-short, checks-none, checks-of, none-checks, held, measured-none, measured-of, none-measured, long, tail, number-got, number-short}
-use Rattle.schema.proofs.Leaves.{option-empty, option-zero, option-one-none, option-one-some, option-other, enum-checks, enum-broken, enum-none, fixed-got, fixed-none, decimal-none, decimal-got, decimal-checks, decimal-later, uuid-empty, uuid-bytes, uuid-string, uuid-short, uuid-fixed, uuid-other, duration-got, duration-none, plain-low, plain-high, kind-past}
+use lib.ListN.{length-drop}
+use Rattle.frame.proofs.Reading.{suffix}
+use Rattle.frame.proofs.Measuring.{long, measured-broken, checks-none}
+use Rattle.schema.proofs.Leaves.{enum-checks, enum-broken, enum-none}
 use Rattle.schema.proofs.leaf.enum_check.Statement.{statement}
 use Rattle.schema.proofs.leaf.enum_check.Tie as tie
 
@@ -22,7 +18,7 @@ enum-told : tie.Need-enum-told
 enum-told c = search needs
 
 returns : tie.Need-returns
-returns c = λ node. checks-none _ _ _ (enum-none node _ (none-measured _ _ (rw (c .enum-told .given .1) at (c .before .before .texts-len .ensures))))
+returns c = λ node. checks-none _ _ _ (enum-none node _ (measured-broken _ _ (rw (c .enum-told .given .1) at (c .before .before .texts-len .ensures))))
 
 sub-option-text-len : tie.Need-sub-option-text-len
 sub-option-text-len c = omega (arith, (long _ _ _ (rw (c .before .a .given .1) at (c .before .before .before .texts-len .ensures))) .inside)
@@ -43,15 +39,15 @@ enum-told-2 : tie.Need-enum-told-2
 enum-told-2 c = search needs
 
 returns-2 : tie.Need-returns-2
-returns-2 c = λ node. checks-none _ _ _ (enum-broken node _ _ (rw (c .before .before .before .before .before .a .given .1) at (c .before .before .before .before .before .before .before .texts-len .ensures)) (rw (c .enum-told2 .given .1, tail) at (c .before .before .option-text-len .ensures)))
+returns-2 c = λ node. checks-none _ _ _ (enum-broken node _ _ (rw (c .before .before .before .before .before .a .given .1) at (c .before .before .before .before .before .before .before .texts-len .ensures)) (rw (c .enum-told2 .given .1, suffix) at (c .before .before .option-text-len .ensures)))
 
 add-t7 : tie.Need-add-t7
 add-t7 c = let h = long _ _ _ (rw (c .before .before .before .before .before .before .a .given .1) at (c .before .before .before .before .before .before .before .before .texts-len .ensures)) in
-    let g = long _ _ _ (rw (c .before .b .given .1, tail) at (c .before .before .before .option-text-len .ensures)) in
+    let g = long _ _ _ (rw (c .before .b .given .1, suffix) at (c .before .before .before .option-text-len .ensures)) in
     omega (arith, h .inside, g .inside, length-drop (c .before .before .before .before .before .before .a .given .0 .0) (c .before .before .before .before .before .before .before .before .before .before .args .s .now), c .before .before .before .before .before .before .before .before .before .before .good)
 
 returns-3 : tie.Need-returns-3
-returns-3 c = λ node. enum-checks node _ _ _ (rw (c .before .before .before .before .before .before .a .given .1) at (c .before .before .before .before .before .before .before .before .texts-len .ensures)) (rw (c .before .b .given .1, tail) at (c .before .before .before .option-text-len .ensures))
+returns-3 c = λ node. enum-checks node _ _ _ (rw (c .before .before .before .before .before .before .a .given .1) at (c .before .before .before .before .before .before .before .before .texts-len .ensures)) (rw (c .before .b .given .1, suffix) at (c .before .before .before .option-text-len .ensures))
 
 pub enum-check-spec : {M : Type 1} → statement M
 enum-check-spec =

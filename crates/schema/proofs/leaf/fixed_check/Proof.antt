@@ -1,14 +1,8 @@
 -- `schema::leaf::fixed_check` meets its contract. Assumes nothing.
-use borrow.Author.Needs.{needs}
-use native.Mathlib.Omega.{arith}
-use mathlib.Core.Path.{refl, ap}
-use lib.Dec.{eqb}
-use lib.ListN.{length, drop, length-drop}
-use Rattle.text.specs.Read.{readNumber, readText}
-use Rattle.frame.specs.Readers.{readList, readOption}
-use Rattle.frame.specs.Sound.{schemaSound, uuidSizeSound}
-use Rattle.schema.proofs.Reading.{Walking, walking-step, walking-none, walking-end, going-list, list-short, checks-none, checks-of, none-checks, held, measured-none, measured-of, none-measured, long, tail, number-got, number-short}
-use Rattle.schema.proofs.Leaves.{option-empty, option-zero, option-one-none, option-one-some, option-other, enum-got, enum-none, enum-later, fixed-got, fixed-none, decimal-none, decimal-got, decimal-later, uuid-empty, uuid-bytes, uuid-string, uuid-short, uuid-fixed, uuid-other, duration-got, duration-none, plain-low, plain-high, kind-past}
+use mathlib.Core.Path.{refl}
+use Rattle.frame.specs.Sound.{schemaSound}
+use Rattle.frame.proofs.Measuring.{checks-some, checks-none}
+use Rattle.schema.proofs.Leaves.{fixed-got, fixed-none}
 use Rattle.schema.proofs.leaf.fixed_check.Statement.{statement}
 use Rattle.schema.proofs.leaf.fixed_check.Tie as tie
 
@@ -17,7 +11,7 @@ returns c = λ node. checks-none _ _ _ (fixed-none node _ (c .if1 .taken))
 
 returns-2 : tie.Need-returns-2
 unfolding schemaSound
-returns-2 c = λ node. checks-of _ _ _ _ _ (c .if1 .left) _ (fixed-got node _ (c .if1 .left)) refl
+returns-2 c = λ node. checks-some _ _ _ _ _ (c .if1 .left) _ (fixed-got node _ (c .if1 .left)) refl
 
 pub fixed-check-spec : {M : Type 1} → statement M
 fixed-check-spec = tie.close (tie.spec returns returns-2)

@@ -1,20 +1,16 @@
 -- `schema::leaf::leaf_check` meets its contract. Assumes nothing.
 use borrow.Author.Needs.{needs}
 use native.Mathlib.Omega.{arith}
-use mathlib.Core.Path.{refl, ap}
-use lib.Dec.{eqb}
-use lib.ListN.{length, drop, length-drop}
-use Rattle.text.specs.Read.{readNumber, readText}
-use Rattle.frame.specs.Readers.{readList, readOption}
-use Rattle.frame.specs.Sound.{schemaSound, uuidSizeSound}
-use Rattle.schema.proofs.Reading.{Walking, walking-step, walking-none, walking-end, going-list, list-short, checks-none, checks-of, none-checks, held, measured-none, measured-of, none-measured, long, tail, number-got, number-short}
-use Rattle.schema.proofs.Leaves.{option-empty, option-zero, option-one-none, option-one-some, option-other, enum-checks, enum-broken, enum-none, fixed-got, fixed-none, decimal-none, decimal-got, decimal-checks, decimal-later, uuid-empty, uuid-bytes, uuid-string, uuid-short, uuid-fixed, uuid-other, duration-got, duration-none, plain-low, plain-high, kind-past}
+use mathlib.Core.Path.{refl}
+use Rattle.frame.specs.Sound.{schemaSound}
+use Rattle.frame.proofs.Measuring.{checks-some, checks-none}
+use Rattle.schema.proofs.Leaves.{plain-low, plain-high, kind-past}
 use Rattle.schema.proofs.leaf.leaf_check.Statement.{statement}
 use Rattle.schema.proofs.leaf.leaf_check.Tie as tie
 
 returns : tie.Need-returns
 unfolding schemaSound
-returns c = λ node. checks-of schemaSound _ _ 0 _ (omega arith) _ (plain-low node _ _ (c .if1 .taken)) refl
+returns c = λ node. checks-some schemaSound _ _ 0 _ (omega arith) _ (plain-low node _ _ (c .if1 .taken)) refl
 
 enum-check-requires : tie.Need-enum-check-requires
 enum-check-requires c κs = search needs
@@ -48,7 +44,7 @@ returns-6 c = λ node. rw (c .before .if6 .taken) (c .duration-check .ensures no
 
 returns-7 : tie.Need-returns-7
 unfolding schemaSound
-returns-7 c = λ node. checks-of schemaSound _ _ 0 _ (omega arith) _ (plain-high node _ _ (omega (arith, c .before .before .before .before .before .before .before .before .pre (c .before .before .before .before .before .before .if1 .left), c .before .before .before .before .before .if2 .left, c .before .before .before .before .if3 .left, c .before .before .before .if4 .left, c .before .before .if5 .left)) (c .if7 .taken)) refl
+returns-7 c = λ node. checks-some schemaSound _ _ 0 _ (omega arith) _ (plain-high node _ _ (omega (arith, c .before .before .before .before .before .before .before .before .pre (c .before .before .before .before .before .before .if1 .left), c .before .before .before .before .before .if2 .left, c .before .before .before .before .if3 .left, c .before .before .before .if4 .left, c .before .before .if5 .left)) (c .if7 .taken)) refl
 
 returns-8 : tie.Need-returns-8
 returns-8 c = λ node. checks-none _ _ _ (kind-past node _ _ (omega (arith, c .before .if6 .left, c .if7 .left)))

@@ -1,14 +1,9 @@
 -- `schema::leaf::option_text_len` meets its contract. Assumes nothing.
 use borrow.Author.Needs.{needs}
 use native.Mathlib.Omega.{arith}
-use mathlib.Core.Path.{refl, ap}
-use lib.Dec.{eqb}
-use lib.ListN.{length, drop, length-drop}
-use Rattle.text.specs.Read.{readNumber, readText}
-use Rattle.frame.specs.Readers.{readList, readOption}
-use Rattle.frame.specs.Sound.{schemaSound, uuidSizeSound}
-use Rattle.schema.proofs.Reading.{Walking, walking-step, walking-none, walking-end, going-list, list-short, checks-none, checks-of, none-checks, held, measured-none, measured-of, none-measured, long, tail, number-got, number-short}
-use Rattle.schema.proofs.Leaves.{option-empty, option-zero, option-one-none, option-one-some, option-measured, option-other, enum-got, enum-none, enum-later, fixed-got, fixed-none, decimal-none, decimal-got, decimal-later, uuid-empty, uuid-bytes, uuid-string, uuid-short, uuid-fixed, uuid-other, duration-got, duration-none, plain-low, plain-high, kind-past}
+use lib.ListN.{length-drop}
+use Rattle.frame.proofs.Reading.{suffix, option-empty, option-zero, option-one-none, option-other}
+use Rattle.frame.proofs.Measuring.{long, measured-some, measured-none, measured-broken, option-measured}
 use Rattle.schema.proofs.leaf.option_text_len.Statement.{statement}
 use Rattle.schema.proofs.leaf.option_text_len.Tie as tie
 
@@ -19,7 +14,7 @@ shared-slice-read-flag : tie.Need-shared-slice-read-flag
 shared-slice-read-flag c = search needs
 
 returns-2 : tie.Need-returns-2
-returns-2 c = measured-of _ _ _ (omega arith) _ (option-zero _ _ (omega arith) (c .if2 .taken))
+returns-2 c = measured-some _ _ _ (omega arith) _ (option-zero _ _ (omega arith) (c .if2 .taken))
 
 sub-text-len : tie.Need-sub-text-len
 sub-text-len c = search needs
@@ -40,13 +35,13 @@ enum-told : tie.Need-enum-told
 enum-told c = search needs
 
 returns-3 : tie.Need-returns-3
-returns-3 c = measured-none _ _ (option-one-none _ _ (omega arith) (c .before .before .before .before .if3 .taken) (none-measured _ _ (rw (c .enum-told .given .1, tail) at (c .before .before .text-len .ensures))))
+returns-3 c = measured-none _ _ (option-one-none _ _ (omega arith) (c .before .before .before .before .if3 .taken) (measured-broken _ _ (rw (c .enum-told .given .1, suffix) at (c .before .before .text-len .ensures))))
 
 add-t10 : tie.Need-add-t10
-add-t10 c = let h = long _ _ _ (rw (c .before .m .given .1, tail) at (c .before .before .before .text-len .ensures)) in omega (arith, h .inside, length-drop 1 (c .before .before .before .before .before .before .before .before .before .before .args .s .now), c .before .before .before .before .before .before .before .before .before .before .good)
+add-t10 c = let h = long _ _ _ (rw (c .before .m .given .1, suffix) at (c .before .before .before .text-len .ensures)) in omega (arith, h .inside, length-drop 1 (c .before .before .before .before .before .before .before .before .before .before .args .s .now), c .before .before .before .before .before .before .before .before .before .before .good)
 
 returns-4 : tie.Need-returns-4
-returns-4 c = option-measured _ _ (omega (arith, c .before .before .before .before .before .before .before .before .if1 .left)) (c .before .before .before .before .before .if3 .taken) _ (rw (c .before .m .given .1, tail) at (c .before .before .before .text-len .ensures))
+returns-4 c = option-measured _ _ (omega (arith, c .before .before .before .before .before .before .before .before .if1 .left)) (c .before .before .before .before .before .if3 .taken) _ (rw (c .before .m .given .1, suffix) at (c .before .before .before .text-len .ensures))
 
 returns-5 : tie.Need-returns-5
 returns-5 c = measured-none _ _ (option-other _ _ (omega arith) (c .before .if2 .left) (c .if3 .left))

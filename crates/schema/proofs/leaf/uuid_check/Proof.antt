@@ -3,12 +3,9 @@ use borrow.Author.Needs.{needs}
 use native.Mathlib.Omega.{arith}
 use mathlib.Core.Path.{refl, ap}
 use lib.Dec.{eqb}
-use lib.ListN.{length, drop, length-drop}
-use Rattle.text.specs.Read.{readNumber, readText}
-use Rattle.frame.specs.Readers.{readList, readOption}
 use Rattle.frame.specs.Sound.{schemaSound, uuidSizeSound}
-use Rattle.schema.proofs.Reading.{Walking, walking-step, walking-none, walking-end, going-list, list-short, checks-none, checks-of, none-checks, held, measured-none, measured-of, none-measured, long, tail, number-got, number-short}
-use Rattle.schema.proofs.Leaves.{option-empty, option-zero, option-one-none, option-one-some, option-other, enum-got, enum-none, enum-later, fixed-got, fixed-none, decimal-none, decimal-got, decimal-later, uuid-empty, uuid-bytes, uuid-string, uuid-short, uuid-fixed, uuid-other, duration-got, duration-none, plain-low, plain-high, kind-past}
+use Rattle.frame.proofs.Measuring.{checks-some, checks-none}
+use Rattle.schema.proofs.Leaves.{uuid-empty, uuid-bytes, uuid-string, uuid-short, uuid-fixed, uuid-other}
 use Rattle.schema.proofs.leaf.uuid_check.Statement.{statement}
 use Rattle.schema.proofs.leaf.uuid_check.Tie as tie
 
@@ -20,11 +17,11 @@ shared-slice-read-form c = search needs
 
 returns-2 : tie.Need-returns-2
 unfolding schemaSound uuidSizeSound
-returns-2 c = λ node. checks-of _ _ _ _ _ (omega arith) _ (uuid-bytes node _ (omega arith) (c .if2 .taken)) refl
+returns-2 c = λ node. checks-some _ _ _ _ _ (omega arith) _ (uuid-bytes node _ (omega arith) (c .if2 .taken)) refl
 
 returns-3 : tie.Need-returns-3
 unfolding schemaSound uuidSizeSound
-returns-3 c = λ node. checks-of _ _ _ _ _ (omega arith) _ (uuid-string node _ (omega arith) (c .if3 .taken)) refl
+returns-3 c = λ node. checks-some _ _ _ _ _ (omega arith) _ (uuid-string node _ (omega arith) (c .if3 .taken)) refl
 
 returns-4 : tie.Need-returns-4
 returns-4 c = λ node. checks-none _ _ _ (uuid-short node _ (omega arith) (c .before .if4 .taken) (c .if5 .taken))
@@ -34,7 +31,7 @@ read2-requires c κs = search needs
 
 returns-5 : tie.Need-returns-5
 unfolding schemaSound uuidSizeSound
-returns-5 c = λ node. checks-of _ _ _ _ _ (c .before .if5 .left) _ (uuid-fixed node _ (c .before .if5 .left) (c .before .before .if4 .taken)) (ap (λ n. eqb n 16) (c .read2 .ensures))
+returns-5 c = λ node. checks-some _ _ _ _ _ (c .before .if5 .left) _ (uuid-fixed node _ (c .before .if5 .left) (c .before .before .if4 .taken)) (ap (λ n. eqb n 16) (c .read2 .ensures))
 
 returns-6 : tie.Need-returns-6
 returns-6 c = λ node. checks-none _ _ _ (uuid-other node _ (omega arith) (c .before .before .if2 .left) (c .before .if3 .left) (c .if4 .left))

@@ -2,7 +2,6 @@
 use mathlib.Core.Path.{refl}
 use native.Mathlib.Omega.{arith}
 use Rattle.schema.specs.Slot.{highOf}
-use borrow.Author.Needs.{needs}
 use Rattle.schema.proofs.names.high_slot.Statement.{statement}
 use Rattle.schema.proofs.names.high_slot.Tie as tie
 

@@ -1,7 +1,6 @@
 -- `schema::names::low_slot` meets its contract. Assumes nothing.
 use mathlib.Core.Path.{refl}
 use Rattle.schema.specs.Slot.{lowOf}
-use borrow.Author.Needs.{needs}
 use Rattle.schema.proofs.names.low_slot.Statement.{statement}
 use Rattle.schema.proofs.names.low_slot.Tie as tie
 

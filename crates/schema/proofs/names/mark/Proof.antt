@@ -1,6 +1,5 @@
 -- `schema::names::mark` meets its contract. Assumes nothing.
 use mathlib.Core.Path.{refl}
-use native.Mathlib.Omega.{arith}
 use Rattle.schema.specs.Slot.{markOf}
 use borrow.Author.Needs.{needs}
 use Rattle.schema.proofs.names.mark.Statement.{statement}

@@ -1,13 +1,13 @@
 -- `schema::names::names_differ` meets its contract. Assumes nothing.
 use Rattle.schema.specs.Slot.{slots}
 use native.Mathlib.Omega.{arith}
-use Rattle.schema.proofs.Seeking.{list-long}
 use borrow.Author.Needs.{needs}
+use Rattle.frame.proofs.Counting.{reads-list}
 use Rattle.schema.proofs.names.names_differ.Statement.{statement}
 use Rattle.schema.proofs.names.names_differ.Tie as tie
 
 read2-requires : tie.Need-read2-requires
-read2-requires c κs = list-long _ _ (c .before .pre)
+read2-requires c κs = reads-list _ _ (c .before .pre)
 
 differ-by-requires : tie.Need-differ-by-requires
 unfolding slots

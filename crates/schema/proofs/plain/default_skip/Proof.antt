@@ -1,9 +1,10 @@
 -- `schema::plain::default_skip` meets its contract. Assumes nothing.
 use native.Mathlib.Omega.{arith}
 use lib.ListN.{length-drop}
-use Rattle.value.proofs.ReaderLaws.{suffix, spans-le}
-use Rattle.schema.proofs.Skipping.{option-long, option-none-spans, option-thing, option-some-spans}
+use Rattle.schema.proofs.Skipping.{option-none-spans, option-thing, option-some-spans}
 use borrow.Author.Needs.{needs}
+use Rattle.frame.proofs.Reading.{suffix, option-long}
+use Rattle.frame.proofs.Measuring.{spans-le}
 use Rattle.schema.proofs.plain.default_skip.Statement.{statement}
 use Rattle.schema.proofs.plain.default_skip.Tie as tie
 

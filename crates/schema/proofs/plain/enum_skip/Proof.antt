@@ -1,9 +1,10 @@
 -- `schema::plain::enum_skip` meets its contract. Assumes nothing.
 use native.Mathlib.Omega.{arith}
 use lib.ListN.{length-drop}
-use Rattle.value.proofs.ReaderLaws.{suffix, spans-le}
 use Rattle.schema.proofs.Skipping.{enum-symbols, enum-default, enum-spans}
 use borrow.Author.Needs.{needs}
+use Rattle.frame.proofs.Reading.{suffix}
+use Rattle.frame.proofs.Measuring.{spans-le}
 use Rattle.schema.proofs.plain.enum_skip.Statement.{statement}
 use Rattle.schema.proofs.plain.enum_skip.Tie as tie
 

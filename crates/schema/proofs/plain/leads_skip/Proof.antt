@@ -1,7 +1,7 @@
 -- `schema::plain::leads_skip` meets its contract. Assumes nothing.
-use Rattle.value.proofs.ReaderLaws.{reads-list}
 use Rattle.schema.proofs.Skipping.{leads-spans}
 use borrow.Author.Needs.{needs}
+use Rattle.frame.proofs.Counting.{reads-list}
 use Rattle.schema.proofs.plain.leads_skip.Statement.{statement}
 use Rattle.schema.proofs.plain.leads_skip.Tie as tie
 

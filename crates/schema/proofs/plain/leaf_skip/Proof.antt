@@ -1,6 +1,7 @@
 -- `schema::plain::leaf_skip` meets its contract. Assumes nothing.
 use Rattle.frame.specs.SchemaFrame.{readSchema}
-use Rattle.value.proofs.ReaderLaws.{checks-spans, checks-broken, not-reads}
+use Rattle.frame.proofs.Reading.{not-reads}
+use Rattle.frame.proofs.Measuring.{checks-broken, checks-spans}
 use borrow.Author.Needs.{needs}
 use Rattle.schema.proofs.plain.leaf_skip.Statement.{statement}
 use Rattle.schema.proofs.plain.leaf_skip.Tie as tie

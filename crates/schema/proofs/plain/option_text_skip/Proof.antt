@@ -5,8 +5,8 @@ use Rattle.text.specs.Read.{readText}
 use Rattle.text.proofs.ReadLaws.{reads-text}
 use Rattle.frame.specs.Readers.{readOption}
 use Rattle.frame.specs.Checks.{Spans}
-use Rattle.value.proofs.ReaderLaws.{suffix}
-use Rattle.schema.proofs.Skipping.{text-held, option-long, option-none-spans, option-thing, option-some-spans}
+use Rattle.frame.proofs.Reading.{suffix, option-long}
+use Rattle.schema.proofs.Skipping.{text-held, option-none-spans, option-thing, option-some-spans}
 use borrow.Author.Needs.{needs}
 use Rattle.schema.proofs.plain.option_text_skip.Statement.{statement}
 use Rattle.schema.proofs.plain.option_text_skip.Tie as tie

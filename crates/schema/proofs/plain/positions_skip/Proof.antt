@@ -1,7 +1,7 @@
 -- `schema::plain::positions_skip` meets its contract. Assumes nothing.
-use Rattle.value.proofs.ReaderLaws.{reads-list}
 use Rattle.schema.proofs.Skipping.{positions-spans}
 use borrow.Author.Needs.{needs}
+use Rattle.frame.proofs.Counting.{reads-list}
 use Rattle.schema.proofs.plain.positions_skip.Statement.{statement}
 use Rattle.schema.proofs.plain.positions_skip.Tie as tie
 

@@ -4,8 +4,11 @@ use Prim.Native.Nat.{ℕ, _+_, _*_, _<_}
 use lib.ListN.{length, length-drop}
 use Rattle.text.proofs.ReadLaws.{reads-text}
 use Rattle.frame.specs.SchemaFrame.{readField, readSchema}
-use Rattle.value.proofs.ReaderLaws.{suffix, reads-eq, spans-le, spans-eq, reads-list, Skipping, skipping-start, skipping-first, skipping-step, skipping-end}
-use Rattle.schema.proofs.Skipping.{text-held, leaf-content, array-known, array-spans, map-known, map-spans, record-known, record-spans, union-variants, union-leads, union-positions, union-spans, field-text, field-default, field-schema, field-spans, known-depth, known-byte, known-content, schema-spans}
+use Rattle.frame.proofs.Reading.{suffix, reads-eq}
+use Rattle.frame.proofs.Measuring.{spans-le, spans-eq}
+use Rattle.frame.proofs.Counting.{reads-list, Walking, walking-start, walking-first, walking-step, walking-end}
+use Rattle.frame.proofs.SchemaNodes.{schema-there}
+use Rattle.schema.proofs.Skipping.{text-held, leaf-content, array-known, array-spans, map-known, map-spans, record-known, record-spans, union-variants, union-leads, union-positions, union-spans, field-text, field-default, field-schema, field-spans, known-content, schema-spans}
 use borrow.Author.Needs.{needs}
 use borrow.Fn.Kinds.{In}
 use borrow.Fn.PlainCycle.{Measures, is, falls, and}
@@ -176,7 +179,7 @@ field-len-returns : (t : ℕ) → field-len-lts.Need-returns (field-len-claims t
 field-len-returns t c = field-spans _ _ (c .before .before .before .before .before .before .pre .1) _ (text-held _ _ (field-text _ _ (c .before .before .before .before .before .before .pre .1)) (c .before .before .before .before .content .ensures .0) (c .before .before .before .before .content .ensures .1 .0)) _ (rw suffix at (c .before .before .default-skip .ensures)) _ (rw suffix at (c .schema-len .ensures))
 
 abbrev fields-skip-Inv-loop : fields-skip-lts.InvT-loop
-fields-skip-Inv-loop s depth left₀ at₀ left at = Skipping (readField (readSchema depth)) s left at
+fields-skip-Inv-loop s depth left₀ at₀ left at = Walking (readField (readSchema depth)) s at left
 
 abbrev fields-skip-μ-loop : fields-skip-lts.MeasureT-loop
 fields-skip-μ-loop s depth left₀ at₀ left at = left
@@ -185,7 +188,7 @@ fields-skip-read2-requires : (t : ℕ) → fields-skip-lts.Need-read2-requires (
 fields-skip-read2-requires t c κs = reads-list (readField (readSchema (c .before .args .depth))) (c .before .args .s .now) (c .before .pre .1)
 
 fields-skip-loop-holds : (t : ℕ) → fields-skip-lts.Need-loop-holds (fields-skip-claims t) (fields-skip-at t) fields-skip.Post fields-skip-Inv-loop fields-skip-μ-loop
-fields-skip-loop-holds t c = skipping-start (readField (readSchema (c .before .before .args .depth))) (c .before .before .args .s .now) _ (c .before .before .pre .1) (c .read2 .ensures)
+fields-skip-loop-holds t c = walking-start (readField (readSchema (c .before .before .args .depth))) (c .before .before .args .s .now) _ (c .before .before .pre .1) (c .read2 .ensures)
 
 fields-skip-sub-field-len : (t : ℕ) → fields-skip-lts.Need-sub-field-len (fields-skip-claims t) (fields-skip-at t) fields-skip.Post fields-skip-Inv-loop fields-skip-μ-loop
 fields-skip-sub-field-len t c = omega (arith, c .before .loop .inv .inside)
@@ -194,34 +197,34 @@ fields-skip-part-field-len-start : (t : ℕ) → fields-skip-lts.Need-part-field
 fields-skip-part-field-len-start t c = omega (arith, c .before .loop .inv .inside)
 
 fields-skip-field-len-requires : (t : ℕ) → fields-skip-lts.Need-field-len-requires (fields-skip-claims t) (fields-skip-at t) fields-skip.Post fields-skip-Inv-loop fields-skip-μ-loop
-fields-skip-field-len-requires t c κs = (omega arith, rw suffix (skipping-first (readField (readSchema (c .before .before .before .before .before .args .depth))) (c .before .before .before .before .before .args .s .now) _ _ (c .before .before .loop .inv) (c .before .before .before .before .before .pre .1) (c .before .loop-test .taken)))
+fields-skip-field-len-requires t c κs = (omega arith, rw suffix (walking-first (readField (readSchema (c .before .before .before .before .before .args .depth))) (c .before .before .before .before .before .args .s .now) _ _ (c .before .before .loop .inv) (c .before .before .before .before .before .pre .1) (c .before .loop-test .taken)))
 
 fields-skip-add-at : (t : ℕ) → fields-skip-lts.Need-add-at (fields-skip-claims t) (fields-skip-at t) fields-skip.Post fields-skip-Inv-loop fields-skip-μ-loop
 fields-skip-add-at t c = omega (arith, spans-le _ _ _ (rw suffix at (c .field-len .ensures)), length-drop (c .before .before .before .loop .at) (c .before .before .before .before .before .before .args .s .now), c .before .before .before .before .before .before .good, c .before .before .before .loop .inv .inside)
 
 fields-skip-loop-again : (t : ℕ) → fields-skip-lts.Need-loop-again (fields-skip-claims t) (fields-skip-at t) fields-skip.Post fields-skip-Inv-loop fields-skip-μ-loop
-fields-skip-loop-again t c = skipping-step (readField (readSchema (c .before .before .before .before .before .before .args .depth))) (c .before .before .before .before .before .before .args .s .now) _ _ (c .before .before .before .loop .inv) _ (c .before .before .loop-test .taken) (rw suffix at (c .field-len .ensures))
+fields-skip-loop-again t c = walking-step (readField (readSchema (c .before .before .before .before .before .before .args .depth))) (c .before .before .before .before .before .before .args .s .now) _ _ (c .before .before .before .loop .inv) _ (c .before .before .loop-test .taken) (rw suffix at (c .field-len .ensures))
 
 fields-skip-returns : (t : ℕ) → fields-skip-lts.Need-returns (fields-skip-claims t) (fields-skip-at t) fields-skip.Post fields-skip-Inv-loop fields-skip-μ-loop
-fields-skip-returns t c = skipping-end (readField (readSchema (c .before .before .before .before .args .depth))) (c .before .before .before .before .args .s .now) _ _ (c .before .loop .inv) (c .loop-test .left)
+fields-skip-returns t c = walking-end (readField (readSchema (c .before .before .before .before .args .depth))) (c .before .before .before .before .args .s .now) _ _ (c .before .loop .inv) (c .loop-test .left)
 
 schema-len-sub-content-skip : (t : ℕ) → schema-len-lts.Need-sub-content-skip (schema-len-claims t) (schema-len-at t) schema-len.Post
-schema-len-sub-content-skip t c = known-byte (c .before .args .depth) (c .before .args .s .now) (c .before .pre .1)
+schema-len-sub-content-skip t c = schema-there (c .before .args .depth) (c .before .args .s .now) (c .before .pre .1) .1
 
 schema-len-part-content-skip-start : (t : ℕ) → schema-len-lts.Need-part-content-skip-start (schema-len-claims t) (schema-len-at t) schema-len.Post
-schema-len-part-content-skip-start t c = known-byte (c .before .args .depth) (c .before .args .s .now) (c .before .pre .1)
+schema-len-part-content-skip-start t c = schema-there (c .before .args .depth) (c .before .args .s .now) (c .before .pre .1) .1
 
 schema-len-shared-slice-read-content-skip : (t : ℕ) → schema-len-lts.Need-shared-slice-read-content-skip (schema-len-claims t) (schema-len-at t) schema-len.Post
-schema-len-shared-slice-read-content-skip t c = known-byte (c .before .before .before .args .depth) (c .before .before .before .args .s .now) (c .before .before .before .pre .1)
+schema-len-shared-slice-read-content-skip t c = schema-there (c .before .before .before .args .depth) (c .before .before .before .args .s .now) (c .before .before .before .pre .1) .1
 
 schema-len-sub-content-skip-2 : (t : ℕ) → schema-len-lts.Need-sub-content-skip-2 (schema-len-claims t) (schema-len-at t) schema-len.Post
-schema-len-sub-content-skip-2 t c = let z = known-depth (c .before .before .before .args .depth) (c .before .before .before .args .s .now) (c .before .before .before .pre .1) in omega arith
+schema-len-sub-content-skip-2 t c = let z = schema-there (c .before .before .before .args .depth) (c .before .before .before .args .s .now) (c .before .before .before .pre .1) .0 in omega arith
 
 schema-len-content-skip-requires : (t : ℕ) → schema-len-lts.Need-content-skip-requires (schema-len-claims t) (schema-len-at t) schema-len.Post
-schema-len-content-skip-requires t c κs = let z = known-depth (c .before .before .before .args .depth) (c .before .before .before .args .s .now) (c .before .before .before .pre .1) in (omega arith, rw suffix (known-content (c .before .before .before .args .depth) (c .before .before .before .args .s .now) (c .before .before .before .pre .1)))
+schema-len-content-skip-requires t c κs = let z = schema-there (c .before .before .before .args .depth) (c .before .before .before .args .s .now) (c .before .before .before .pre .1) .0 in (omega arith, rw suffix (known-content (c .before .before .before .args .depth) (c .before .before .before .args .s .now) (c .before .before .before .pre .1)))
 
 schema-len-add-result : (t : ℕ) → schema-len-lts.Need-add-result (schema-len-claims t) (schema-len-at t) schema-len.Post
-schema-len-add-result t c = omega (arith, known-byte (c .before .before .before .before .args .depth) (c .before .before .before .before .args .s .now) (c .before .before .before .before .pre .1), spans-le _ _ _ (rw suffix at (c .content-skip .ensures)), length-drop 1 (c .before .before .before .before .args .s .now), c .before .before .before .before .good)
+schema-len-add-result t c = omega (arith, schema-there (c .before .before .before .before .args .depth) (c .before .before .before .before .args .s .now) (c .before .before .before .before .pre .1) .1, spans-le _ _ _ (rw suffix at (c .content-skip .ensures)), length-drop 1 (c .before .before .before .before .args .s .now), c .before .before .before .before .good)
 
 schema-len-returns : (t : ℕ) → schema-len-lts.Need-returns (schema-len-claims t) (schema-len-at t) schema-len.Post
 schema-len-returns t c = schema-spans (c .before .before .before .before .args .depth) (c .before .before .before .before .args .s .now) (c .before .before .before .before .pre .1) _ (rw suffix at (c .content-skip .ensures))
@@ -257,7 +260,7 @@ union-skip-returns : (t : ℕ) → union-skip-lts.Need-returns (union-skip-claim
 union-skip-returns t c = union-spans _ _ (c .before .before .before .before .before .before .pre .1) _ (c .before .before .before .before .variants-skip .ensures) _ (rw suffix at (c .before .before .leads-skip .ensures)) _ (rw suffix at (c .positions-skip .ensures))
 
 abbrev variants-skip-Inv-loop : variants-skip-lts.InvT-loop
-variants-skip-Inv-loop s depth left₀ at₀ left at = Skipping (readSchema depth) s left at
+variants-skip-Inv-loop s depth left₀ at₀ left at = Walking (readSchema depth) s at left
 
 abbrev variants-skip-μ-loop : variants-skip-lts.MeasureT-loop
 variants-skip-μ-loop s depth left₀ at₀ left at = left
@@ -266,7 +269,7 @@ variants-skip-read2-requires : (t : ℕ) → variants-skip-lts.Need-read2-requir
 variants-skip-read2-requires t c κs = reads-list (readSchema (c .before .args .depth)) (c .before .args .s .now) (c .before .pre .1)
 
 variants-skip-loop-holds : (t : ℕ) → variants-skip-lts.Need-loop-holds (variants-skip-claims t) (variants-skip-at t) variants-skip.Post variants-skip-Inv-loop variants-skip-μ-loop
-variants-skip-loop-holds t c = skipping-start (readSchema (c .before .before .args .depth)) (c .before .before .args .s .now) _ (c .before .before .pre .1) (c .read2 .ensures)
+variants-skip-loop-holds t c = walking-start (readSchema (c .before .before .args .depth)) (c .before .before .args .s .now) _ (c .before .before .pre .1) (c .read2 .ensures)
 
 variants-skip-sub-schema-len : (t : ℕ) → variants-skip-lts.Need-sub-schema-len (variants-skip-claims t) (variants-skip-at t) variants-skip.Post variants-skip-Inv-loop variants-skip-μ-loop
 variants-skip-sub-schema-len t c = omega (arith, c .before .loop .inv .inside)
@@ -275,16 +278,16 @@ variants-skip-part-schema-len-start : (t : ℕ) → variants-skip-lts.Need-part-
 variants-skip-part-schema-len-start t c = omega (arith, c .before .loop .inv .inside)
 
 variants-skip-schema-len-requires : (t : ℕ) → variants-skip-lts.Need-schema-len-requires (variants-skip-claims t) (variants-skip-at t) variants-skip.Post variants-skip-Inv-loop variants-skip-μ-loop
-variants-skip-schema-len-requires t c κs = (omega arith, rw suffix (skipping-first (readSchema (c .before .before .before .before .before .args .depth)) (c .before .before .before .before .before .args .s .now) _ _ (c .before .before .loop .inv) (c .before .before .before .before .before .pre .1) (c .before .loop-test .taken)))
+variants-skip-schema-len-requires t c κs = (omega arith, rw suffix (walking-first (readSchema (c .before .before .before .before .before .args .depth)) (c .before .before .before .before .before .args .s .now) _ _ (c .before .before .loop .inv) (c .before .before .before .before .before .pre .1) (c .before .loop-test .taken)))
 
 variants-skip-add-at : (t : ℕ) → variants-skip-lts.Need-add-at (variants-skip-claims t) (variants-skip-at t) variants-skip.Post variants-skip-Inv-loop variants-skip-μ-loop
 variants-skip-add-at t c = omega (arith, spans-le _ _ _ (rw suffix at (c .schema-len .ensures)), length-drop (c .before .before .before .loop .at) (c .before .before .before .before .before .before .args .s .now), c .before .before .before .before .before .before .good, c .before .before .before .loop .inv .inside)
 
 variants-skip-loop-again : (t : ℕ) → variants-skip-lts.Need-loop-again (variants-skip-claims t) (variants-skip-at t) variants-skip.Post variants-skip-Inv-loop variants-skip-μ-loop
-variants-skip-loop-again t c = skipping-step (readSchema (c .before .before .before .before .before .before .args .depth)) (c .before .before .before .before .before .before .args .s .now) _ _ (c .before .before .before .loop .inv) _ (c .before .before .loop-test .taken) (rw suffix at (c .schema-len .ensures))
+variants-skip-loop-again t c = walking-step (readSchema (c .before .before .before .before .before .before .args .depth)) (c .before .before .before .before .before .before .args .s .now) _ _ (c .before .before .before .loop .inv) _ (c .before .before .loop-test .taken) (rw suffix at (c .schema-len .ensures))
 
 variants-skip-returns : (t : ℕ) → variants-skip-lts.Need-returns (variants-skip-claims t) (variants-skip-at t) variants-skip.Post variants-skip-Inv-loop variants-skip-μ-loop
-variants-skip-returns t c = skipping-end (readSchema (c .before .before .before .before .args .depth)) (c .before .before .before .before .args .s .now) _ _ (c .before .loop .inv) (c .loop-test .left)
+variants-skip-returns t c = walking-end (readSchema (c .before .before .before .before .args .depth)) (c .before .before .before .before .args .s .now) _ _ (c .before .loop .inv) (c .loop-test .left)
 
 pub +content-skip+field-len+fields-skip+schema-len+union-skip+variants-skip-spec : {M : Type 1} → statement M
 +content-skip+field-len+fields-skip+schema-len+union-skip+variants-skip-spec = close μ-content-skip μ-field-len μ-fields-skip μ-schema-len μ-union-skip μ-variants-skip

@@ -1,7 +1,5 @@
 -- `schema::table::lead_sound` meets its contract. Assumes nothing.
 use borrow.Author.Tests.{lt-leb, le-leb}
-use native.Mathlib.Omega.{arith}
-use borrow.Author.Needs.{needs}
 use Rattle.schema.proofs.table.lead_sound.Statement.{statement}
 use Rattle.schema.proofs.table.lead_sound.Tie as tie
 

@@ -2,12 +2,12 @@
 use borrow.Author.Needs.{needs}
 use native.Mathlib.Omega.{arith}
 use mathlib.Core.Path.{refl}
-use lib.ListN.{length, drop, length-drop}
-use Rattle.text.specs.Read.{readNumber}
+use lib.ListN.{length-drop}
 use Rattle.frame.specs.Readers.{readList}
 use Rattle.frame.specs.SchemaFrame.{readLead}
 use Rattle.frame.specs.Sound.{kindsSound}
-use Rattle.schema.proofs.Reading.{Going, going-list, going-none, going-end, list-short, checks-none}
+use Rattle.frame.proofs.Measuring.{checks-none}
+use Rattle.frame.proofs.Counting.{list-short, Going, going-list, going-none, going-end}
 use Rattle.schema.proofs.Tables.{lead-short, leads-step}
 use Rattle.schema.proofs.table.leads_check.Statement.{statement}
 use Rattle.schema.proofs.table.leads_check.Tie as tie

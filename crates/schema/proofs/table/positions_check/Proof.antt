@@ -2,11 +2,13 @@
 use borrow.Author.Needs.{needs}
 use native.Mathlib.Omega.{arith}
 use mathlib.Core.Path.{refl}
-use lib.ListN.{length, drop, length-drop}
+use lib.ListN.{length-drop}
 use Rattle.text.specs.Read.{readNumber}
+use Rattle.text.proofs.ReadLaws.{readNumber-none}
 use Rattle.frame.specs.Readers.{readList}
 use Rattle.frame.specs.Sound.{positionsSound}
-use Rattle.schema.proofs.Reading.{Going, going-list, going-none, going-end, list-short, checks-none, number-short}
+use Rattle.frame.proofs.Measuring.{checks-none}
+use Rattle.frame.proofs.Counting.{list-short, Going, going-list, going-none, going-end}
 use Rattle.schema.proofs.Tables.{positions-step}
 use Rattle.schema.proofs.table.positions_check.Statement.{statement}
 use Rattle.schema.proofs.table.positions_check.Tie as tie
@@ -33,7 +35,7 @@ sub-if2 : tie.Need-sub-if2 Inv-loop μ-loop
 sub-if2 c = omega (arith, c .before .loop .inv .inside)
 
 returns-2 : tie.Need-returns-2 Inv-loop μ-loop
-returns-2 c = checks-none _ _ _ (going-none _ _ _ _ _ _ _ _ (c .before .before .loop .inv) (c .before .loop-test .taken) (number-short 2 _ (omega (arith, length-drop (c .before .before .loop .at) (c .before .before .before .before .before .before .args .s .now), c .if2 .taken))))
+returns-2 c = checks-none _ _ _ (going-none _ _ _ _ _ _ _ _ (c .before .before .loop .inv) (c .before .loop-test .taken) (readNumber-none 2 _ (omega (arith, length-drop (c .before .before .loop .at) (c .before .before .before .before .before .before .args .s .now), c .if2 .taken))))
 
 read2-requires-2 : tie.Need-read2-requires-2 Inv-loop μ-loop
 read2-requires-2 c κs = omega (arith, c .before .before .loop .inv .inside)

@@ -1,15 +1,13 @@
 -- `schema::whole::schema_frame` meets its contract. Assumes nothing.
 use borrow.Author.Needs.{needs}
-use native.Mathlib.Omega.{arith}
-use mathlib.Core.Path.{_≡_, sym, ap, _∙_}
-use mathlib.Core.Bool.{Bool, true, false}
+use mathlib.Core.Path.{sym, ap, _∙_}
+use mathlib.Core.Bool.{Bool}
 use Rattle.base.specs.Base.{if_then_else_}
 use Rattle.frame.specs.SchemaFrame.{readSchema, decodeSchema}
 use Rattle.frame.specs.Sound.{schemaSound}
 use Rattle.frame.specs.Checks.{schemaVerdict}
-use Rattle.frame.specs.declared.Verdict.{Verdict}
 use Rattle.frame.specs.declared.Verdict.the-variants.{Unsound, Sound}
-use Rattle.value.proofs.ReaderLaws.{verdict-long, verdict-broken, verdict-over, verdict-whole}
+use Rattle.frame.proofs.Whole.{verdict-long, verdict-broken, verdict-over, verdict-whole}
 use Rattle.schema.proofs.whole.schema_frame.Statement.{statement}
 use Rattle.schema.proofs.whole.schema_frame.Tie as tie
 
