@@ -1,7 +1,6 @@
 // Reads value frames: how many bytes the node at the front of a part takes and whether its map keys rise, by descending node by
 // node, depth falling.
 ghost use mathlib.Core.Path.{_≡_};
-ghost use mathlib.Core.Bool.{_&&_};
 ghost use Prim.Native.Nat.{_≤_};
 ghost use Rattle.text.specs.Read.{readCounted};
 ghost use Rattle.text.specs.Measured.{Measured, Reads};
@@ -13,6 +12,7 @@ ghost use Rattle.value.specs.Shape.{shape, keyless};
 ghost use Rattle.value.specs.Keys.{follows};
 use frame::Checked;
 use frame::Verdict;
+use frame::both;
 use text::Len;
 
 // What the content of a kind is made of.
@@ -103,15 +103,6 @@ fn shape_of(k: u8) -> Shape
         return Shape::Fixed(12);
     }
     Shape::Unknown
-}
-
-fn both(a: bool, b: bool) -> bool
-    ensures { λ r. ⌜ r ≡ (a && b) ⌝ }
-{
-    if a {
-        return b;
-    }
-    false
 }
 
 // The length of a content that holds no map.

@@ -2,16 +2,19 @@
 -- within a depth, from the content over its entries to a node. Assumes nothing.
 use borrow.Author.Needs.{needs}
 use native.Mathlib.Omega.{arith}
-use Prim.Native.Nat.{ℕ, _+_, _-_, _*_, _≤_, _<_}
-use mathlib.Core.Path.{_≡_, refl, sym, ap, _∙_}
+use Prim.Native.Nat.{ℕ, _+_, _*_, _≤_, _<_}
+use mathlib.Core.Path.{refl, sym, ap, _∙_}
 use mathlib.Core.Bool.{_&&_}
 use lib.ListN.{length, length-drop}
 use Rattle.frame.specs.ValueFrame.{readEntry, readContent, readValue}
 use Rattle.frame.specs.Readers.{readList}
 use Rattle.frame.specs.Sound.{keysRise}
 use Rattle.value.specs.declared.Shape.the-variants as S
-use Rattle.value.proofs.ReaderLaws.{suffix, measured-le, checks-none, checks-broken, checks-le, checks-eq, checks-drop, checks-first-broken, list-none, going-none, going-end, Counting, going-start, counting-short, counting-step, counting-broken, counting-end}
-use Rattle.value.proofs.NodeLaws.{value-bottom, value-empty, value-node, Answers, content-by, union-short, union-some, union-broken, arrayOf, array-next, array-none, recordOf, record-next, record-none, entrySound, entry-nameless, entry-some, entry-broken}
+use Rattle.frame.proofs.Reading.{suffix, mapRead}
+use Rattle.frame.proofs.Measuring.{measured-le, checks-none, checks-broken, checks-le, checks-eq, checks-drop, checks-first-broken}
+use Rattle.frame.proofs.Counting.{list-short, Going, going-map, going-next, going-none, going-end}
+use Rattle.frame.proofs.ValueNodes.{value-bottom, value-empty, value-node}
+use Rattle.value.proofs.NodeLaws.{Answers, content-by, union-short, union-some, union-broken, arrayOf, array-next, array-none, recordOf, record-next, record-none, entrySound, entry-nameless, entry-some, entry-broken}
 use Rattle.value.proofs.MapLaws.{rest-none, Mapping, mapping-start, key-inside, mapping-step}
 use borrow.Fn.Kinds.{In}
 use borrow.Fn.PlainCycle.{Measures, is, falls, and}
@@ -40,7 +43,7 @@ use Rattle.number.proofs.read2.Reads as read2-reads
 use Rattle.text.proofs.bytes_len.Reads as bytes-len-reads
 use Rattle.text.proofs.counted_len.Reads as counted-len-reads
 use Rattle.text.proofs.text_len.Reads as text-len-reads
-use Rattle.value.proofs.both.Reads as both-reads
+use Rattle.frame.proofs.both.Reads as both-reads
 use Rattle.value.proofs.flag_len.Reads as flag-len-reads
 use Rattle.value.proofs.key_rises.Reads as key-rises-reads
 use Rattle.value.proofs.keyless_len.Reads as keyless-len-reads
@@ -199,21 +202,21 @@ unfolding Answers
 content-check-returns-10 t c = content-by (readValue (c .before .before .before .before .args .depth)) (c .before .before .before .before .args .k) (c .before .before .before .before .args .s .now) S.Unknown _ (sym (c .before .before .shape-of .ensures) ∙ c .enum-told9 .given .1) refl
 
 abbrev entries-check-Inv-loop : entries-check-lts.InvT-loop
-entries-check-Inv-loop s depth left₀ at₀ ok₀ left at ok = Counting (readEntry (readValue depth)) recordOf keysRise s left at ok
+entries-check-Inv-loop s depth left₀ at₀ ok₀ left at ok = Going (mapRead recordOf (readList (readEntry (readValue depth)) s)) (readEntry (readValue depth)) keysRise s at left ok (λ es. keysRise (recordOf es))
 
 abbrev entries-check-μ-loop : entries-check-lts.MeasureT-loop
 entries-check-μ-loop s depth left₀ at₀ ok₀ left at ok = left
 
 entries-check-returns : (t : ℕ) → entries-check-lts.Need-returns (entries-check-claims t) (entries-check-at t) entries-check.Post entries-check-Inv-loop entries-check-μ-loop
 unfolding readContent
-entries-check-returns t c = counting-short (readEntry (readValue (c .before .before .args .depth))) recordOf keysRise (c .before .before .args .s .now) (c .if1 .taken)
+entries-check-returns t c = checks-first-broken keysRise (readList (readEntry (readValue (c .before .before .args .depth))) (c .before .before .args .s .now)) _ (c .before .before .args .s .now) (list-short _ _ (c .if1 .taken))
 
 entries-check-loop-holds : (t : ℕ) → entries-check-lts.Need-loop-holds (entries-check-claims t) (entries-check-at t) entries-check.Post entries-check-Inv-loop entries-check-μ-loop
-entries-check-loop-holds t c = going-start (readEntry (readValue (c .before .before .before .args .depth))) recordOf keysRise (c .before .before .before .args .s .now) _ (c .before .if1 .left) (c .read2 .ensures)
+entries-check-loop-holds t c = going-map (readEntry (readValue (c .before .before .before .args .depth))) (c .before .before .before .args .s .now) recordOf keysRise _ (c .before .if1 .left) (c .read2 .ensures)
 
 entries-check-returns-2 : (t : ℕ) → entries-check-lts.Need-returns-2 (entries-check-claims t) (entries-check-at t) entries-check.Post entries-check-Inv-loop entries-check-μ-loop
 unfolding readContent
-entries-check-returns-2 t c = counting-broken (readEntry (readValue (c .before .before .before .before .before .before .before .before .before .args .depth))) recordOf keysRise (c .before .before .before .before .before .before .before .before .before .args .s .now) _ _ _ (c .before .before .before .before .before .loop .inv) entrySound (c .before .before .before .before .loop-test .taken) (rw (c .enum-told .given .1, suffix) at (c .before .before .entry-check .ensures))
+entries-check-returns-2 t c = checks-none keysRise _ _ (going-none _ (readEntry (readValue (c .before .before .before .before .before .before .before .before .before .args .depth))) keysRise (c .before .before .before .before .before .before .before .before .before .args .s .now) _ _ _ _ (c .before .before .before .before .before .loop .inv) (c .before .before .before .before .loop-test .taken) (checks-broken entrySound _ _ (rw (c .enum-told .given .1, suffix) at (c .before .before .entry-check .ensures))))
 
 entries-check-add-at : (t : ℕ) → entries-check-lts.Need-add-at (entries-check-claims t) (entries-check-at t) entries-check.Post entries-check-Inv-loop entries-check-μ-loop
 entries-check-add-at t c =
@@ -221,11 +224,11 @@ entries-check-add-at t c =
     omega (arith, length-drop (c .before .before .before .before .before .before .before .loop .at) (c .before .before .before .before .before .before .before .before .before .before .before .args .s .now))
 
 entries-check-loop-again : (t : ℕ) → entries-check-lts.Need-loop-again (entries-check-claims t) (entries-check-at t) entries-check.Post entries-check-Inv-loop entries-check-μ-loop
-entries-check-loop-again t c = counting-step (readEntry (readValue (c .before .before .before .before .before .before .before .before .before .before .before .args .depth))) recordOf keysRise (c .before .before .before .before .before .before .before .before .before .before .before .args .s .now) _ _ _ (c .before .before .before .before .before .before .before .loop .inv) entrySound record-next _ _ _ (c .before .before .before .before .before .before .loop-test .taken) (rw (c .before .before .m .given .1, suffix) at (c .before .before .before .before .entry-check .ensures)) (c .both .ensures)
+entries-check-loop-again t c = going-next _ (readEntry (readValue (c .before .before .before .before .before .before .before .before .before .before .before .args .depth))) keysRise (c .before .before .before .before .before .before .before .before .before .before .before .args .s .now) _ _ _ (λ xs. keysRise (recordOf xs)) (c .before .before .before .before .before .before .before .loop .inv) entrySound record-next (c .before .before .before .before .before .before .loop-test .taken) _ _ _ (rw (c .before .before .m .given .1, suffix) at (c .before .before .before .before .entry-check .ensures)) (c .both .ensures)
 
 entries-check-returns-3 : (t : ℕ) → entries-check-lts.Need-returns-3 (entries-check-claims t) (entries-check-at t) entries-check.Post entries-check-Inv-loop entries-check-μ-loop
 unfolding readContent
-entries-check-returns-3 t c = counting-end (readEntry (readValue (c .before .before .before .before .before .args .depth))) recordOf keysRise (c .before .before .before .before .before .args .s .now) _ _ _ (c .before .loop .inv) (c .loop-test .left) record-none
+entries-check-returns-3 t c = going-end _ (readEntry (readValue (c .before .before .before .before .before .args .depth))) keysRise (c .before .before .before .before .before .args .s .now) _ _ _ _ (c .before .loop .inv) (c .loop-test .left) record-none
 
 entry-check-returns : (t : ℕ) → entry-check-lts.Need-returns (entry-check-claims t) (entry-check-at t) entry-check.Post
 entry-check-returns t c = entry-nameless (readValue (c .before .before .before .before .args .depth)) (c .before .before .before .before .args .s .now) (rw (c .enum-told .given .1) at (c .before .before .text-len .ensures))
@@ -249,21 +252,21 @@ entry-check-returns-3 : (t : ℕ) → entry-check-lts.Need-returns-3 (entry-chec
 entry-check-returns-3 t c = entry-some (readValue (c .before .before .before .before .before .before .before .before .before .before .args .depth)) (c .before .before .before .before .before .before .before .before .before .before .args .s .now) _ _ _ (rw (c .before .before .before .before .before .before .k .given .1) at (c .before .before .before .before .before .before .before .before .text-len .ensures)) (rw (c .before .m .given .1, suffix) at (c .before .before .before .value-check .ensures))
 
 abbrev items-check-Inv-loop : items-check-lts.InvT-loop
-items-check-Inv-loop s depth left₀ at₀ ok₀ left at ok = Counting (readValue depth) arrayOf keysRise s left at ok
+items-check-Inv-loop s depth left₀ at₀ ok₀ left at ok = Going (mapRead arrayOf (readList (readValue depth) s)) (readValue depth) keysRise s at left ok (λ vs. keysRise (arrayOf vs))
 
 abbrev items-check-μ-loop : items-check-lts.MeasureT-loop
 items-check-μ-loop s depth left₀ at₀ ok₀ left at ok = left
 
 items-check-returns : (t : ℕ) → items-check-lts.Need-returns (items-check-claims t) (items-check-at t) items-check.Post items-check-Inv-loop items-check-μ-loop
 unfolding readContent
-items-check-returns t c = counting-short (readValue (c .before .before .args .depth)) arrayOf keysRise (c .before .before .args .s .now) (c .if1 .taken)
+items-check-returns t c = checks-first-broken keysRise (readList (readValue (c .before .before .args .depth)) (c .before .before .args .s .now)) _ (c .before .before .args .s .now) (list-short _ _ (c .if1 .taken))
 
 items-check-loop-holds : (t : ℕ) → items-check-lts.Need-loop-holds (items-check-claims t) (items-check-at t) items-check.Post items-check-Inv-loop items-check-μ-loop
-items-check-loop-holds t c = going-start (readValue (c .before .before .before .args .depth)) arrayOf keysRise (c .before .before .before .args .s .now) _ (c .before .if1 .left) (c .read2 .ensures)
+items-check-loop-holds t c = going-map (readValue (c .before .before .before .args .depth)) (c .before .before .before .args .s .now) arrayOf keysRise _ (c .before .if1 .left) (c .read2 .ensures)
 
 items-check-returns-2 : (t : ℕ) → items-check-lts.Need-returns-2 (items-check-claims t) (items-check-at t) items-check.Post items-check-Inv-loop items-check-μ-loop
 unfolding readContent
-items-check-returns-2 t c = counting-broken (readValue (c .before .before .before .before .before .before .before .before .before .args .depth)) arrayOf keysRise (c .before .before .before .before .before .before .before .before .before .args .s .now) _ _ _ (c .before .before .before .before .before .loop .inv) keysRise (c .before .before .before .before .loop-test .taken) (rw (c .enum-told .given .1, suffix) at (c .before .before .value-check .ensures))
+items-check-returns-2 t c = checks-none keysRise _ _ (going-none _ (readValue (c .before .before .before .before .before .before .before .before .before .args .depth)) keysRise (c .before .before .before .before .before .before .before .before .before .args .s .now) _ _ _ _ (c .before .before .before .before .before .loop .inv) (c .before .before .before .before .loop-test .taken) (checks-broken keysRise _ _ (rw (c .enum-told .given .1, suffix) at (c .before .before .value-check .ensures))))
 
 items-check-add-at : (t : ℕ) → items-check-lts.Need-add-at (items-check-claims t) (items-check-at t) items-check.Post items-check-Inv-loop items-check-μ-loop
 items-check-add-at t c =
@@ -271,11 +274,11 @@ items-check-add-at t c =
     omega (arith, length-drop (c .before .before .before .before .before .before .before .loop .at) (c .before .before .before .before .before .before .before .before .before .before .before .args .s .now))
 
 items-check-loop-again : (t : ℕ) → items-check-lts.Need-loop-again (items-check-claims t) (items-check-at t) items-check.Post items-check-Inv-loop items-check-μ-loop
-items-check-loop-again t c = counting-step (readValue (c .before .before .before .before .before .before .before .before .before .before .before .args .depth)) arrayOf keysRise (c .before .before .before .before .before .before .before .before .before .before .before .args .s .now) _ _ _ (c .before .before .before .before .before .before .before .loop .inv) keysRise array-next _ _ _ (c .before .before .before .before .before .before .loop-test .taken) (rw (c .before .before .m .given .1, suffix) at (c .before .before .before .before .value-check .ensures)) (c .both .ensures)
+items-check-loop-again t c = going-next _ (readValue (c .before .before .before .before .before .before .before .before .before .before .before .args .depth)) keysRise (c .before .before .before .before .before .before .before .before .before .before .before .args .s .now) _ _ _ (λ xs. keysRise (arrayOf xs)) (c .before .before .before .before .before .before .before .loop .inv) keysRise array-next (c .before .before .before .before .before .before .loop-test .taken) _ _ _ (rw (c .before .before .m .given .1, suffix) at (c .before .before .before .before .value-check .ensures)) (c .both .ensures)
 
 items-check-returns-3 : (t : ℕ) → items-check-lts.Need-returns-3 (items-check-claims t) (items-check-at t) items-check.Post items-check-Inv-loop items-check-μ-loop
 unfolding readContent
-items-check-returns-3 t c = counting-end (readValue (c .before .before .before .before .before .args .depth)) arrayOf keysRise (c .before .before .before .before .before .args .s .now) _ _ _ (c .before .loop .inv) (c .loop-test .left) array-none
+items-check-returns-3 t c = going-end _ (readValue (c .before .before .before .before .before .args .depth)) keysRise (c .before .before .before .before .before .args .s .now) _ _ _ _ (c .before .loop .inv) (c .loop-test .left) array-none
 
 abbrev map-check-Inv-loop : map-check-lts.InvT-loop
 map-check-Inv-loop s depth left₀ at₀ ok₀ first₀ from₀ to₀ left at ok first from to = Mapping (readValue depth) 9 s first from to left at ok × (from ≤ to) × (to ≤ length s)
@@ -285,13 +288,13 @@ map-check-μ-loop s depth left₀ at₀ ok₀ first₀ from₀ to₀ left at ok 
 
 map-check-returns : (t : ℕ) → map-check-lts.Need-returns (map-check-claims t) (map-check-at t) map-check.Post map-check-Inv-loop map-check-μ-loop
 unfolding readContent
-map-check-returns t c = checks-first-broken keysRise (readList (readEntry (readValue (c .before .before .args .depth))) (c .before .before .args .s .now)) _ _ (list-none _ _ (c .if1 .taken))
+map-check-returns t c = checks-first-broken keysRise (readList (readEntry (readValue (c .before .before .args .depth))) (c .before .before .args .s .now)) _ _ (list-short _ _ (c .if1 .taken))
 
 map-check-loop-holds : (t : ℕ) → map-check-lts.Need-loop-holds (map-check-claims t) (map-check-at t) map-check.Post map-check-Inv-loop map-check-μ-loop
 map-check-loop-holds t c = (mapping-start (readValue (c .before .before .before .args .depth)) 9 (c .before .before .before .args .s .now) _ (c .before .if1 .left) (c .read2 .ensures), omega arith, omega arith)
 
 map-check-returns-2 : (t : ℕ) → map-check-lts.Need-returns-2 (map-check-claims t) (map-check-at t) map-check.Post map-check-Inv-loop map-check-μ-loop
-map-check-returns-2 t c = checks-none keysRise _ _ (going-none (readEntry (readValue (c .before .before .before .before .before .before .before .before .before .args .depth))) _ keysRise (c .before .before .before .before .before .before .before .before .before .args .s .now) _ _ _ _ (c .before .before .before .before .before .loop .inv .0) (c .before .before .before .before .loop-test .taken) (checks-broken entrySound _ _ (rw (c .enum-told .given .1, suffix) at (c .before .before .entry-check .ensures))))
+map-check-returns-2 t c = checks-none keysRise _ _ (going-none _ (readEntry (readValue (c .before .before .before .before .before .before .before .before .before .args .depth))) keysRise (c .before .before .before .before .before .before .before .before .before .args .s .now) _ _ _ _ (c .before .before .before .before .before .loop .inv .0) (c .before .before .before .before .loop-test .taken) (checks-broken entrySound _ _ (rw (c .enum-told .given .1, suffix) at (c .before .before .entry-check .ensures))))
 
 map-check-add-start : (t : ℕ) → map-check-lts.Need-add-start (map-check-claims t) (map-check-at t) map-check.Post map-check-Inv-loop map-check-μ-loop
 map-check-add-start t c =
@@ -339,7 +342,7 @@ map-check-loop-again t c =
     )
 
 map-check-returns-3 : (t : ℕ) → map-check-lts.Need-returns-3 (map-check-claims t) (map-check-at t) map-check.Post map-check-Inv-loop map-check-μ-loop
-map-check-returns-3 t c = going-end (readEntry (readValue (c .before .before .before .before .before .args .depth))) _ keysRise (c .before .before .before .before .before .args .s .now) _ _ _ _ (c .before .loop .inv .0) (c .loop-test .left) (rest-none _ _)
+map-check-returns-3 t c = going-end _ (readEntry (readValue (c .before .before .before .before .before .args .depth))) keysRise (c .before .before .before .before .before .args .s .now) _ _ _ _ (c .before .loop .inv .0) (c .loop-test .left) (rest-none _ _)
 
 union-check-returns : (t : ℕ) → union-check-lts.Need-returns (union-check-claims t) (union-check-at t) union-check.Post
 union-check-returns t c = union-short (readValue (c .before .before .args .depth)) 10 (c .before .before .args .s .now) (c .if1 .taken)

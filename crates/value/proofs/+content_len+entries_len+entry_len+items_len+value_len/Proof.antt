@@ -2,14 +2,17 @@
 -- within a depth, from the content over its entries to a node. Assumes nothing.
 use borrow.Author.Needs.{needs}
 use native.Mathlib.Omega.{arith}
-use Prim.Native.Nat.{ℕ, _+_, _-_, _*_, _≤_, _<_}
-use mathlib.Core.Path.{_≡_, refl, sym, _∙_}
+use Prim.Native.Nat.{ℕ, _+_, _*_, _≤_, _<_}
+use mathlib.Core.Path.{refl, sym, _∙_}
 use lib.ListN.{length, drop, length-drop}
 use Rattle.frame.specs.ValueFrame.{readEntry, readValue}
+use Rattle.frame.proofs.Reading.{suffix}
+use Rattle.frame.proofs.Measuring.{spans-le}
+use Rattle.frame.proofs.Counting.{reads-list, Walking, walking-start, walking-first, walking-step, walking-end}
+use Rattle.frame.proofs.ValueNodes.{value-there}
 use Rattle.text.proofs.ReadLaws.{reads-text}
 use Rattle.value.specs.declared.Shape.the-variants as S
-use Rattle.value.proofs.ReaderLaws.{suffix, spans-le, reads-list, Skipping, skipping-start, skipping-first, skipping-step, skipping-end}
-use Rattle.value.proofs.SkipLaws.{Known, Skips, content-known, content-spans, entry-counted, entry-node, entry-spans, known-depth, known-byte, known-content, value-spans}
+use Rattle.value.proofs.SkipLaws.{Known, Skips, content-known, content-spans, entry-counted, entry-node, entry-spans, known-content, value-spans}
 use borrow.Fn.Kinds.{In}
 use borrow.Fn.PlainCycle.{Measures, is, falls, and}
 use Rattle.value.proofs.content_len.Reads as content-len
@@ -199,7 +202,7 @@ unfolding Known
 content-len-returns-10 t c = absurd (content-known (readValue (c .before .before .before .before .args .depth)) (c .before .before .before .before .args .k) (c .before .before .before .before .args .s .now) S.Unknown (sym (c .before .before .shape-of .ensures) ∙ c .enum-told9 .given .1) (c .before .before .before .before .pre .1))
 
 abbrev entries-len-Inv-loop : entries-len-lts.InvT-loop
-entries-len-Inv-loop s depth left₀ at₀ left at = Skipping (readEntry (readValue depth)) s left at
+entries-len-Inv-loop s depth left₀ at₀ left at = Walking (readEntry (readValue depth)) s at left
 
 abbrev entries-len-μ-loop : entries-len-lts.MeasureT-loop
 entries-len-μ-loop s depth left₀ at₀ left at = left
@@ -208,10 +211,10 @@ entries-len-read2-requires : (t : ℕ) → entries-len-lts.Need-read2-requires (
 entries-len-read2-requires t c κs = reads-list (readEntry (readValue (c .before .args .depth))) (c .before .args .s .now) (c .before .pre .1)
 
 entries-len-loop-holds : (t : ℕ) → entries-len-lts.Need-loop-holds (entries-len-claims t) (entries-len-at t) entries-len.Post entries-len-Inv-loop entries-len-μ-loop
-entries-len-loop-holds t c = skipping-start (readEntry (readValue (c .before .before .args .depth))) (c .before .before .args .s .now) _ (c .before .before .pre .1) (c .read2 .ensures)
+entries-len-loop-holds t c = walking-start (readEntry (readValue (c .before .before .args .depth))) (c .before .before .args .s .now) _ (c .before .before .pre .1) (c .read2 .ensures)
 
 entries-len-entry-len-requires : (t : ℕ) → entries-len-lts.Need-entry-len-requires (entries-len-claims t) (entries-len-at t) entries-len.Post entries-len-Inv-loop entries-len-μ-loop
-entries-len-entry-len-requires t c κs = (omega arith, rw suffix (skipping-first (readEntry (readValue (c .before .before .before .before .before .args .depth))) (c .before .before .before .before .before .args .s .now) _ _ (c .before .before .loop .inv) (c .before .before .before .before .before .pre .1) (c .before .loop-test .taken)))
+entries-len-entry-len-requires t c κs = (omega arith, rw suffix (walking-first (readEntry (readValue (c .before .before .before .before .before .args .depth))) (c .before .before .before .before .before .args .s .now) _ _ (c .before .before .loop .inv) (c .before .before .before .before .before .pre .1) (c .before .loop-test .taken)))
 
 entries-len-add-at : (t : ℕ) → entries-len-lts.Need-add-at (entries-len-claims t) (entries-len-at t) entries-len.Post entries-len-Inv-loop entries-len-μ-loop
 entries-len-add-at t c =
@@ -219,10 +222,10 @@ entries-len-add-at t c =
     omega (arith, length-drop (c .before .before .before .loop .at) (c .before .before .before .before .before .before .args .s .now))
 
 entries-len-loop-again : (t : ℕ) → entries-len-lts.Need-loop-again (entries-len-claims t) (entries-len-at t) entries-len.Post entries-len-Inv-loop entries-len-μ-loop
-entries-len-loop-again t c = skipping-step (readEntry (readValue (c .before .before .before .before .before .before .args .depth))) (c .before .before .before .before .before .before .args .s .now) _ _ (c .before .before .before .loop .inv) _ (c .before .before .loop-test .taken) (rw suffix at (c .entry-len .ensures))
+entries-len-loop-again t c = walking-step (readEntry (readValue (c .before .before .before .before .before .before .args .depth))) (c .before .before .before .before .before .before .args .s .now) _ _ (c .before .before .before .loop .inv) _ (c .before .before .loop-test .taken) (rw suffix at (c .entry-len .ensures))
 
 entries-len-returns : (t : ℕ) → entries-len-lts.Need-returns (entries-len-claims t) (entries-len-at t) entries-len.Post entries-len-Inv-loop entries-len-μ-loop
-entries-len-returns t c = skipping-end (readEntry (readValue (c .before .before .before .before .args .depth))) (c .before .before .before .before .args .s .now) _ _ (c .before .loop .inv) (c .loop-test .left)
+entries-len-returns t c = walking-end (readEntry (readValue (c .before .before .before .before .args .depth))) (c .before .before .before .before .args .s .now) _ _ (c .before .loop .inv) (c .loop-test .left)
 
 entry-len-counted-skip-requires : (t : ℕ) → entry-len-lts.Need-counted-skip-requires (entry-len-claims t) (entry-len-at t) entry-len.Post
 entry-len-counted-skip-requires t c κs = entry-counted (readValue (c .before .args .depth)) (c .before .args .s .now) (c .before .pre .1)
@@ -246,7 +249,7 @@ entry-len-returns : (t : ℕ) → entry-len-lts.Need-returns (entry-len-claims t
 entry-len-returns t c = entry-spans (readValue (c .before .before .before .before .args .depth)) (c .before .before .before .before .args .s .now) (c .before .before .before .before .pre .1) _ _ (c .before .before .counted-skip .ensures) (rw suffix at (c .value-len .ensures))
 
 abbrev items-len-Inv-loop : items-len-lts.InvT-loop
-items-len-Inv-loop s depth left₀ at₀ left at = Skipping (readValue depth) s left at
+items-len-Inv-loop s depth left₀ at₀ left at = Walking (readValue depth) s at left
 
 abbrev items-len-μ-loop : items-len-lts.MeasureT-loop
 items-len-μ-loop s depth left₀ at₀ left at = left
@@ -255,10 +258,10 @@ items-len-read2-requires : (t : ℕ) → items-len-lts.Need-read2-requires (item
 items-len-read2-requires t c κs = reads-list (readValue (c .before .args .depth)) (c .before .args .s .now) (c .before .pre .1)
 
 items-len-loop-holds : (t : ℕ) → items-len-lts.Need-loop-holds (items-len-claims t) (items-len-at t) items-len.Post items-len-Inv-loop items-len-μ-loop
-items-len-loop-holds t c = skipping-start (readValue (c .before .before .args .depth)) (c .before .before .args .s .now) _ (c .before .before .pre .1) (c .read2 .ensures)
+items-len-loop-holds t c = walking-start (readValue (c .before .before .args .depth)) (c .before .before .args .s .now) _ (c .before .before .pre .1) (c .read2 .ensures)
 
 items-len-value-len-requires : (t : ℕ) → items-len-lts.Need-value-len-requires (items-len-claims t) (items-len-at t) items-len.Post items-len-Inv-loop items-len-μ-loop
-items-len-value-len-requires t c κs = (omega arith, rw suffix (skipping-first (readValue (c .before .before .before .before .before .args .depth)) (c .before .before .before .before .before .args .s .now) _ _ (c .before .before .loop .inv) (c .before .before .before .before .before .pre .1) (c .before .loop-test .taken)))
+items-len-value-len-requires t c κs = (omega arith, rw suffix (walking-first (readValue (c .before .before .before .before .before .args .depth)) (c .before .before .before .before .before .args .s .now) _ _ (c .before .before .loop .inv) (c .before .before .before .before .before .pre .1) (c .before .loop-test .taken)))
 
 items-len-add-at : (t : ℕ) → items-len-lts.Need-add-at (items-len-claims t) (items-len-at t) items-len.Post items-len-Inv-loop items-len-μ-loop
 items-len-add-at t c =
@@ -266,29 +269,29 @@ items-len-add-at t c =
     omega (arith, length-drop (c .before .before .before .loop .at) (c .before .before .before .before .before .before .args .s .now))
 
 items-len-loop-again : (t : ℕ) → items-len-lts.Need-loop-again (items-len-claims t) (items-len-at t) items-len.Post items-len-Inv-loop items-len-μ-loop
-items-len-loop-again t c = skipping-step (readValue (c .before .before .before .before .before .before .args .depth)) (c .before .before .before .before .before .before .args .s .now) _ _ (c .before .before .before .loop .inv) _ (c .before .before .loop-test .taken) (rw suffix at (c .value-len .ensures))
+items-len-loop-again t c = walking-step (readValue (c .before .before .before .before .before .before .args .depth)) (c .before .before .before .before .before .before .args .s .now) _ _ (c .before .before .before .loop .inv) _ (c .before .before .loop-test .taken) (rw suffix at (c .value-len .ensures))
 
 items-len-returns : (t : ℕ) → items-len-lts.Need-returns (items-len-claims t) (items-len-at t) items-len.Post items-len-Inv-loop items-len-μ-loop
-items-len-returns t c = skipping-end (readValue (c .before .before .before .before .args .depth)) (c .before .before .before .before .args .s .now) _ _ (c .before .loop .inv) (c .loop-test .left)
+items-len-returns t c = walking-end (readValue (c .before .before .before .before .args .depth)) (c .before .before .before .before .args .s .now) _ _ (c .before .loop .inv) (c .loop-test .left)
 
 value-len-sub-content-len : (t : ℕ) → value-len-lts.Need-sub-content-len (value-len-claims t) (value-len-at t) value-len.Post
-value-len-sub-content-len t c = known-byte (c .before .args .depth) (c .before .args .s .now) (c .before .pre .1)
+value-len-sub-content-len t c = value-there (c .before .args .depth) (c .before .args .s .now) (c .before .pre .1) .1
 
 value-len-part-content-len-start : (t : ℕ) → value-len-lts.Need-part-content-len-start (value-len-claims t) (value-len-at t) value-len.Post
-value-len-part-content-len-start t c = known-byte (c .before .args .depth) (c .before .args .s .now) (c .before .pre .1)
+value-len-part-content-len-start t c = value-there (c .before .args .depth) (c .before .args .s .now) (c .before .pre .1) .1
 
 value-len-shared-slice-read-content-len : (t : ℕ) → value-len-lts.Need-shared-slice-read-content-len (value-len-claims t) (value-len-at t) value-len.Post
-value-len-shared-slice-read-content-len t c = known-byte (c .before .before .before .args .depth) (c .before .before .before .args .s .now) (c .before .before .before .pre .1)
+value-len-shared-slice-read-content-len t c = value-there (c .before .before .before .args .depth) (c .before .before .before .args .s .now) (c .before .before .before .pre .1) .1
 
 value-len-sub-content-len-2 : (t : ℕ) → value-len-lts.Need-sub-content-len-2 (value-len-claims t) (value-len-at t) value-len.Post
-value-len-sub-content-len-2 t c = let z = known-depth (c .before .before .before .args .depth) (c .before .before .before .args .s .now) (c .before .before .before .pre .1) in omega arith
+value-len-sub-content-len-2 t c = let z = value-there (c .before .before .before .args .depth) (c .before .before .before .args .s .now) (c .before .before .before .pre .1) .0 in omega arith
 
 value-len-content-len-requires : (t : ℕ) → value-len-lts.Need-content-len-requires (value-len-claims t) (value-len-at t) value-len.Post
-value-len-content-len-requires t c κs = let z = known-depth (c .before .before .before .args .depth) (c .before .before .before .args .s .now) (c .before .before .before .pre .1) in (omega arith, rw suffix (known-content (c .before .before .before .args .depth) (c .before .before .before .args .s .now) (c .before .before .before .pre .1)))
+value-len-content-len-requires t c κs = let z = value-there (c .before .before .before .args .depth) (c .before .before .before .args .s .now) (c .before .before .before .pre .1) .0 in (omega arith, rw suffix (known-content (c .before .before .before .args .depth) (c .before .before .before .args .s .now) (c .before .before .before .pre .1)))
 
 value-len-add-result : (t : ℕ) → value-len-lts.Need-add-result (value-len-claims t) (value-len-at t) value-len.Post
 value-len-add-result t c =
-    let b = known-byte (c .before .before .before .before .args .depth) (c .before .before .before .before .args .s .now) (c .before .before .before .before .pre .1) in
+    let b = value-there (c .before .before .before .before .args .depth) (c .before .before .before .before .args .s .now) (c .before .before .before .before .pre .1) .1 in
     let h = spans-le _ _ _ (rw suffix at (c .content-len .ensures)) in
     omega (arith, length-drop 1 (c .before .before .before .before .args .s .now))
 

@@ -1,9 +1,9 @@
 -- `value::symbol_check` meets its contract. Assumes nothing.
 use native.Mathlib.Omega.{arith}
-use mathlib.Core.Path.{_≡_}
 use lib.ListN.{length-drop}
 use Rattle.frame.specs.ValueFrame.{readValue}
-use Rattle.value.proofs.ReaderLaws.{suffix, measured-le}
+use Rattle.frame.proofs.Reading.{suffix}
+use Rattle.frame.proofs.Measuring.{measured-le}
 use Rattle.value.proofs.NodeLaws.{symbol-short, symbol-some, symbol-broken}
 use borrow.Author.Needs.{needs}
 use Rattle.value.proofs.symbol_check.Statement.{statement}
