@@ -15,7 +15,6 @@ use Rattle.number.specs.Number.{allBytes, numberAt, bytesOf}
 use Rattle.text.specs.Text.{Text}
 use Rattle.text.specs.Measured.{Reads}
 use Rattle.schema.specs.Parts.{Field}
-use Rattle.frame.specs.Kind
 use Rattle.frame.specs.Tree.{Value, Entries, Schema, Fields, noEntries, entry, kindOf, entries}
 use Rattle.frame.specs.Readers.{readMany}
 use Rattle.frame.specs.ValueFrame.{entriesOf, readEntry, readValue, writeText, countEntries, encodeValue, encodeEntries}

@@ -40,7 +40,7 @@ use Rattle.resolution.proofs.SoundParts.{union-sound, variant-sound}
 
 -- ---- fields that are no union
 
-start-plain : (t : Schema) (d : Value) → (schemaKind t ≡ 10 → ⊥) → startDefault t d ≡ ok d
+pub start-plain : (t : Schema) (d : Value) → (schemaKind t ≡ 10 → ⊥) → startDefault t d ≡ ok d
 unfolding resolve schemaKind
 start-plain (Schema.Plain k) d f = refl
 start-plain (Schema.Fixed n) d f = refl

@@ -31,7 +31,7 @@ use Rattle.resolution.proofs.SoundParts.{test-some, short-ready}
 use Rattle.resolution.proofs.ReadParts.{ready-reads}
 use Rattle.resolution.proofs.Pieces.{both-some}
 use Rattle.resolution.proofs.FieldBytes.{Given, default-given, default-none}
-use Rattle.resolution.proofs.DefaultBytes.{first-variant, first-kind}
+use Rattle.resolution.proofs.DefaultBytes.{start-plain, first-variant, first-kind}
 
 pub ready-there : (d : ℕ) (s : List ℕ) → Ready d s → (0 < d) × (0 < length s)
 ready-there d s w = schema-there d s (ready-reads d s w)
@@ -55,17 +55,7 @@ short-alone v h = ap (λ b. not b || leb (length (encodeValue (peel v))) 4096) (
 
 -- no union: the default stays as it is
 start-alone : (t : Schema) (v : Value) → (schemaKind t ≡ 10 → ⊥) → T (defaultKinds v) → shortStart (startDefault t v) ≡ true
-unfolding schemaKind startDefault
-start-alone (Schema.Plain k) v u h = short-alone v h
-start-alone (Schema.Fixed n) v u h = short-alone v h
-start-alone (Schema.Decimal p c n) v u h = short-alone v h
-start-alone (Schema.Uuid f) v u h = short-alone v h
-start-alone (Schema.Duration n) v u h = short-alone v h
-start-alone (Schema.Enum ss d) v u h = short-alone v h
-start-alone (Schema.Array t) v u h = short-alone v h
-start-alone (Schema.Map t) v u h = short-alone v h
-start-alone (Schema.Record fs) v u h = short-alone v h
-start-alone (Schema.Union vs ks ns) v u h = absurd (u refl)
+start-alone t v u h = ap shortStart (start-plain t v u) ∙ short-alone v h
 
 -- a Null variant gives Null
 start-null : (t : Schema) (vs : Variants) (ks : List (ℕ × ℕ)) (ns : List ℕ) (v : Value) → schemaKind t ≡ 0 → shortStart (startDefault (Schema.Union (variant t vs) ks ns) v) ≡ true

@@ -14,7 +14,7 @@ use Rattle.number.proofs.Laws.{allBytes-take, bytesOf-bigEndian}
 use Rattle.text.specs.Read.{Read, readCounted, readText}
 use Rattle.text.specs.Measured.{Reads}
 use Rattle.text.proofs.ReadLaws.{reads-counted, readText-counted}
-use Rattle.frame.specs.Tree.{Value, Schema, entries}
+use Rattle.frame.specs.Tree.{Value, entries}
 use Rattle.frame.specs.ValueFrame.{readEntry, readValue, writeText}
 use Rattle.frame.specs.SchemaFrame.{readField, readSchema}
 use Rattle.frame.specs.Sound.{schemaSound}
@@ -26,7 +26,7 @@ use Rattle.field.specs.Parts.{DefaultAt, FieldParts}
 use Rattle.types.specs.Contract.{onBoth}
 use Rattle.find.proofs.FindLaws.{located-at, located-nothing}
 use Rattle.schema.specs.Parts.{Field}
-use Rattle.schema.proofs.Seeking.{field-name as name-read}
+use Rattle.schema.proofs.Checking.{name-is as field-name}
 use Rattle.resolution.specs.Contract.{Ready, ReadyField, ReadyDefault, nodeBytes, entryBytes, defaultBytes, fieldBytes}
 use Rattle.find.specs.declared.Found.the-variants.{At, Nothing}
 use Rattle.field.specs.declared.FieldAt.{FieldAt}
@@ -82,11 +82,6 @@ entry-whole ds dv s v x r p b e =
 
 -- ---- fields
 
-field-name : (node : List ℕ → Read Schema) (s x : List ℕ) (f : Field) (r : List ℕ) → readField node s ≡ some (f, r) → readCounted s ≡ some (x, drop (2 + length x) s) → f .0 ≡ x
-field-name node s x f r e q =
-    let i = name-read node s f r e in
-    read-what (sym (i .1) ∙ q)
-
 pub ready-field-reads : (ds : ℕ) (s : List ℕ) → ReadyField ds s → Reads (readField (readSchema ds) s)
 ready-field-reads ds s r = reads-some (r .name, r .default, r .tree) (r .rest) (r .reads)
 
@@ -138,7 +133,7 @@ module _ (ds : ℕ) (s : List ℕ) (rf : ReadyField ds s) (f : FieldAt) (fp : Fi
         ≡ after (fieldValue o (fp .default) (λ d. startDefault (fp .tree) d)) (λ y. front (take (length x + 2) s) (nodeBytes (fp .tree) y))
     unfolding fieldBytes Reads entryUnder
     field-open o q =
-        let n : fp .name ≡ x = field-name (readSchema ds) s x (fp .name, fp .default, fp .tree) (fp .rest) (fp .reads) e in
+        let n : fp .name ≡ x = sym (field-name (readSchema ds) s (fp .name, fp .default, fp .tree) (fp .rest) (fp .reads) x (drop (2 + length x) s) e) in
         let w : lookup x (entries (pv .0)) ≡ o = sym (ap (entryUnder x) (pv .1 .1)) ∙ q in
         both-some fieldBytes _ _ (fp .name, fp .default, fp .tree) (pv .0) (fp .rest) (pv .1 .0) (fp .reads) (pv .1 .1)
         ∙ ap (λ y. fieldBytes (y, fp .default, fp .tree) (pv .0)) n

@@ -13,7 +13,6 @@ use Rattle.number.specs.Number.{allBytes, bigEndian, numberAt, bytesOf}
 use Rattle.number.proofs.Laws.{allBytes-take, allBytes-tail, bytesOf-bigEndian}
 use Rattle.text.specs.Read.{Read}
 use Rattle.text.specs.Measured.{Reads}
-use Rattle.frame.specs.Kind
 use Rattle.frame.specs.Tree.{Value, Values, Schema, noItems, item, kindOf, items, peel}
 use Rattle.frame.specs.Readers.{readMany}
 use Rattle.frame.specs.ValueFrame.{itemsOf, readValue, countItems, encodeValue, encodeItems}

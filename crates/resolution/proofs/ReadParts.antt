@@ -6,7 +6,6 @@ use lib.ListN.{length, getD, drop}
 use Rattle.number.specs.Number.{numberAt}
 use Rattle.text.specs.Read.{Read}
 use Rattle.text.specs.Measured.{Reads}
-use Rattle.frame.specs.Kind
 use Rattle.frame.specs.Tree.{Value, Schema}
 use Rattle.frame.specs.Readers.{readMany, readList}
 use Rattle.frame.specs.ValueFrame.{table, itemsOf, entriesOf, readEntry, readContent, readValue}
