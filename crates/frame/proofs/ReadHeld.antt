@@ -19,7 +19,6 @@ use Rattle.frame.specs.Tree.{Value, Schema, Fields, Variants, noFields, 
 use Rattle.frame.specs.Readers.{readFlag, readMany, readList, readOption, whole}
 use Rattle.frame.specs.ValueFrame.{Content, wide, flag, counted, text, plain, array, map, union, entries, symbol, unknown, content, itemsOf, entriesOf, readEntry, readContent, readValue, decodeValue, countItems, countEntries}
 use Rattle.frame.specs.SchemaFrame.{fieldsOf, variantsOf, readField, readLead, readUuidForm, readSchemaContent, readSchema, decodeSchema}
-use Rattle.frame.specs.ValueFrame
 use Rattle.frame.specs.Sound.{countVariants}
 use Rattle.frame.proofs.ReadBack.{count-items, count-entries}
 use Rattle.frame.proofs.SchemaNodes.{count-variants}

@@ -16,7 +16,6 @@ use Rattle.text.specs.Read.{Read, _>>=_, readBytes, readNumber, readCounted, re
 use Rattle.text.specs.Measured.{Reads}
 use Rattle.scalar.specs.Conversion.{inInt, finiteDouble}
 use Rattle.text.proofs.ReadLaws.{readText-counted, readNumber-some}
-use Rattle.frame.specs.Kind
 use Rattle.frame.specs.Tree.{Value}
 use Rattle.frame.specs.Readers.{readFlag, readList, readOption}
 use Rattle.frame.specs.ValueFrame.{Content, wide, flag, counted, text, plain, array, map, union, entries, symbol, unknown, table, content, itemsOf, entriesOf, readEntry, readContent, readValue}

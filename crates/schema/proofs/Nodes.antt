@@ -9,7 +9,6 @@ use lib.ListN.{length, drop, getD, length-drop}
 use lib.Seq.{drop-drop}
 use Rattle.text.specs.Text.{Text}
 use Rattle.text.specs.Read.{Read, _>>=_, readNumber, readText}
-use Rattle.frame.specs.Kind
 use Rattle.frame.specs.Tree.{Value, Schema}
 use Rattle.frame.specs.Readers.{readList, readOption}
 use Rattle.frame.specs.ValueFrame.{readValue}

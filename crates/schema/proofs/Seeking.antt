@@ -5,7 +5,6 @@ use mathlib.Core.List.{List, [], _∷_}
 use mathlib.Core.Option.{some}
 use mathlib.Core.Bool.{Bool, true, false, _&&_, not}
 use Rattle.text.specs.Read.{Read, readCounted, readText}
-use Rattle.text.specs.declared.Len.the-variants as len
 use Rattle.text.proofs.ReadLaws.{readText-counted}
 use Rattle.frame.specs.Tree.{Schema}
 use Rattle.frame.specs.Readers.{readOption}

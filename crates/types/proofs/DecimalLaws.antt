@@ -1,21 +1,20 @@
 -- Code points as bytes: what resolve_decimal makes of a String.
-use Prim.Native.Nat.{ℕ, zero, suc, _≤_, _<_}
-use mathlib.Core.Path.{_≡_, refl, sym, ap, _∙_, subst}
+use Prim.Native.Nat.{ℕ, suc, _≤_, _<_}
+use mathlib.Core.Path.{_≡_, refl}
 use mathlib.Core.List.{List, [], _∷_}
 use mathlib.Core.Option.{Option, none, some}
 use mathlib.Core.Bool.{Bool, true, false, _&&_, _||_}
 use native.Mathlib.Omega.{arith}
 use borrow.Author.Tests.{ne-eqb, lt-ltb, le-ltb}
-use lib.Dec.{leb, ltb, eqb}
+use lib.Dec.{leb, eqb}
 use lib.ListN.{length}
 use Rattle.base.specs.Base.{if_then_else_, Result, ok, no, after}
 use Rattle.utf8.specs.Utf8.{isUtf8, codePoints, pointsFrom, ended, stepOf, digitsOf, allLatin1, latin1Count}
-use Rattle.utf8.specs.declared.Points.{Points}
 use Rattle.utf8.specs.declared.Points.the-variants.{Of, Above}
 use Rattle.decimal.specs.Decimal.{tooShortFor}
 use Rattle.frame.specs.Kind
 use Rattle.frame.specs.Tree.{Value, kindOf, octets}
-use Rattle.types.specs.Types.{Outcome, pointBytes, textPoints, fixedTooShort, resolve-decimal}
+use Rattle.types.specs.Types.{pointBytes, textPoints, fixedTooShort, resolve-decimal}
 use Rattle.types.specs.Contract.{orNone, points}
 
 -- ---- code points of a text

@@ -1,13 +1,13 @@
 -- The ways of the resolution functions for bytes and texts: what a test decides, and what is refused for its kind.
-use Prim.Native.Nat.{ℕ, _+_, _≤_, _<_}
-use mathlib.Core.Path.{_≡_, refl, sym, ap, _∙_, subst}
-use mathlib.Core.List.{List, [], _∷_, _++_}
+use Prim.Native.Nat.{ℕ, _≤_}
+use mathlib.Core.Path.{_≡_, refl, sym, ap, _∙_}
+use mathlib.Core.List.{List}
 use mathlib.Core.Option.{Option, none, some}
 use mathlib.Core.Bool.{Bool, true, false}
 use native.Mathlib.Omega.{arith}
 use borrow.Author.Tests.{ne-eqb}
 use lib.ListN.{length, drop, length-drop}
-use Rattle.base.specs.Base.{if_then_else_, Result, ok, no}
+use Rattle.base.specs.Base.{if_then_else_, ok, no}
 use Rattle.text.specs.Read.{readCounted}
 use Rattle.text.specs.Measured.{Reads}
 use Rattle.text.proofs.ReadLaws.{reads-counted}

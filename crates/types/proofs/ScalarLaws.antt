@@ -1,7 +1,7 @@
 -- What each resolution to a scalar gives, arm by arm: a kind that is kept, one that is converted, and the others.
 use Prim.Native.Nat.{ℕ, zero, suc, _+_, _-_, _≤_, _<_}
 use mathlib.Core.Path.{_≡_, refl, sym, ap, _∙_, subst}
-use mathlib.Core.List.{List, [], _∷_}
+use mathlib.Core.List.{List}
 use mathlib.Core.Option.{Option, none, some}
 use mathlib.Core.Bool.{Bool, true, false, _||_}
 use native.Mathlib.Omega.{arith}
@@ -12,13 +12,12 @@ use borrow.Author.Tests.{eq-eqb, ne-eqb, eqb-false, leb-true, leb-false}
 use Rattle.base.specs.Base.{if_then_else_, Result, ok, no}
 use Rattle.scalar.specs.Conversion.{longOfInt, inInt, intOfLong, floatOfInt, floatOfLong, floatOfDouble, doubleOfInt, doubleOfLong, doubleOfFloat, parse-special-float}
 use Rattle.scalar.specs.Scalars.{narrowed, specialOf}
-use Rattle.scalar.specs.declared.Narrowed.{Narrowed}
 use Rattle.scalar.specs.declared.Narrowed.the-variants.{To, OutOfRange}
 use Rattle.scalar.specs.declared.SpecialFloat.{SpecialFloat}
 use Rattle.scalar.specs.declared.SpecialFloat.the-variants.{Bits, NotOne}
 use Rattle.frame.specs.Kind
 use Rattle.frame.specs.Tree.{Value, kindOf, number, octets}
-use Rattle.frame.specs.ValueFrame.{Content, wide, flag, text, unknown, table, content}
+use Rattle.frame.specs.ValueFrame.{wide, flag, text, unknown, table, content}
 use Rattle.types.specs.Types.{resolve-null, resolve-boolean, resolve-int, resolve-long, special, resolve-float, resolve-double, resolveIntTime, resolveLongTime, resolvePlain}
 
 -- ---- what the kinds hold
