@@ -1,17 +1,17 @@
 -- Document 01, "Where a port goes astray": the last of two equal names, the untried variant of the kind table, one rounding.
 use Prim.Native.Nat.{ℕ}
 use mathlib.Core.Path.{_≡_, refl}
-use mathlib.Core.List.{List, [], _∷_}
-use mathlib.Core.Option.{Option, none, some}
+use mathlib.Core.List.{[], _∷_}
+use mathlib.Core.Option.{none, some}
 use lib.Ieee as ieee
 use Rattle.base.specs.Base
-use Rattle.base.specs.Base.{if_then_else_, ok, no}
-use Rattle.text.specs.Text.{Text, same}
+use Rattle.base.specs.Base.{ok, no}
+use Rattle.text.specs.Text.{Text}
 use Rattle.text.proofs.TextLaws.{same-refl}
 use Rattle.rounding.specs.Rounding.{ofInteger, magnitude, roundUnits}
 use Rattle.scalar.specs.Conversion.{floatOfLong}
 use Rattle.frame.specs.Kind
-use Rattle.frame.specs.Tree.{Value, Entries, Schema, noEntries, entry, variant, noVariants, kindOf, number, octets, peel, schemaKind}
+use Rattle.frame.specs.Tree.{Value, Entries, Schema, entry, variant, noVariants, kindOf, number, peel, schemaKind}
 use Rattle.types.specs.Types.{resolvePlain, resolve-int, resolve-float}
 use Rattle.avro.specs.Union
 use Rattle.avro.specs.Resolve.{resolve, lookup, orElse}

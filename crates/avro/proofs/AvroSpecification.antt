@@ -1,15 +1,15 @@
 -- What the Apache Avro Specification says under "Schema Resolution", of the function that resolution is.
-use Prim.Native.Nat.{ℕ, zero, suc, _+_, _-_, _^_, _<_, _≤_}
-use mathlib.Core.Path.{_≡_, refl, sym, ap, _∙_}
-use mathlib.Core.List.{List, [], _∷_}
+use Prim.Native.Nat.{ℕ, suc, _+_, _-_, _^_, _<_, _≤_}
+use mathlib.Core.Path.{_≡_, refl, ap}
+use mathlib.Core.List.{List}
 use mathlib.Core.Option.{Option, none, some}
 use mathlib.Core.Bool.{Bool, true, false}
 use native.Mathlib.Omega.{arith}
-use lib.Dec.{T, ltb, ltb→lt, nltb→le, lt→ltb}
+use lib.Dec.{ltb, ltb→lt, nltb→le, lt→ltb}
 use lib.Arith.{le→nltb}
-use lib.IntN.{ℤ, pos, negsuc}
-use lib.Ieee.Bits.{is-true, is-false, cond-no}
-use Rattle.base.specs.Base.{if_then_else_, Result, ok, no}
+use lib.IntN.{negsuc}
+use lib.Ieee.Bits.{is-true, is-false}
+use Rattle.base.specs.Base.{if_then_else_, ok, no}
 use Rattle.text.specs.Text.{Text}
 use Rattle.utf8.specs.Utf8.{isUtf8}
 use Rattle.rounding.specs.Rounding.{ofTwos, ofInteger, convert}

@@ -1,27 +1,27 @@
 -- Under nullable pairs, what a Record schema doesn't name decides nothing: a value resolves as it does when stripped.
-use Prim.Native.Nat.{ℕ, zero, suc}
+use Prim.Native.Nat.{ℕ}
 use mathlib.Core.Path.{_≡_, refl, sym, ap, _∙_, subst}
 use mathlib.Core.List.{List, [], _∷_}
 use mathlib.Core.Option.{Option, none, some, Option·map}
-use mathlib.Core.Bool.{Bool, true, false, _&&_, _||_, not, cond}
-use lib.Dec.{T, leb, ltb, eqb, eqb→eq, eqb-refl, not-T, T-not}
+use mathlib.Core.Bool.{Bool, true, false, _&&_, _||_, not}
+use lib.Dec.{T, ltb, eqb, eqb→eq, eqb-refl, not-T}
 use lib.ListN.{length}
 use lib.Ieee.Bits.{is-true, is-false}
 use lib.Ieee.Fits.{and-l, and-r, and-i}
 use Rattle.base.specs.Base.{if_then_else_, Result, ok, no, after}
 use Rattle.text.specs.Text.{Text, same}
 use Rattle.frame.specs.Kind
-use Rattle.frame.specs.Tree.{Value, Values, Entries, Schema, Fields, Variants, noItems, item, noEntries, entry, noFields, field, noVariants, variant, kindOf, is, items, entries, peel, schemaKind}
-use Rattle.frame.specs.ValueFrame.{decodeValue, encodeValue}
+use Rattle.frame.specs.Tree.{Value, Values, Entries, Schema, Fields, noItems, item, noEntries, entry, noFields, field, noVariants, variant, kindOf, items, entries, peel, schemaKind}
+use Rattle.frame.specs.ValueFrame.{encodeValue}
 use Rattle.frame.specs.SchemaFrame.{decodeSchema}
-use Rattle.frame.specs.Sound.{keysRise, schemaSound, fieldsSound, variantsSound, hasField, defaultAllowed, kindsSound, positionsSound, countVariants}
+use Rattle.frame.specs.Sound.{keysRise, schemaSound, fieldsSound, hasField}
 use Rattle.types.specs.Types.{Outcome, resolvePlain, resolve-null}
-use Rattle.avro.specs.Union.{Trial, resolve-union, inUnion, find-schema-with-known-schemata, schema-to-base-schemakind}
+use Rattle.avro.specs.Union.{Trial, resolve-union}
 use Rattle.avro.specs.Resolve.{resolve, resolveFields, startDefault, trials, resolve-array, resolve-map, resolve-record, eachItem, eachEntry, fieldValue, lookup, orElse}
 use Rattle.avro.specs.Defaults.{defaultsShort}
 use Rattle.hulmbax.specs.Answer.{answer, checkedSchema, checkedValue, written, bufferAfter, workspaceAfter, workspaceSize}
-use Rattle.demand3.specs.Demand3.{Alike, AreAlike, nullablePair, nullablePairs, fieldPairs, variantPairs, isNull, onlyNullLeadsTo, underUnion, change, mapItems, mapEntries, hasName, keepEntry, keepEntries, strip, stripField, stripVariants}
-use Rattle.demand3.proofs.Induction.{NotUnion, pair, sound-field, EveryField, Steps, induction}
+use Rattle.demand3.specs.Demand3.{Alike, AreAlike, nullablePair, nullablePairs, isNull, onlyNullLeadsTo, underUnion, change, mapItems, mapEntries, hasName, keepEntry, keepEntries, strip, stripField}
+use Rattle.demand3.proofs.Induction.{pair, sound-field, EveryField, Steps, induction}
 
 -- ---- texts
 

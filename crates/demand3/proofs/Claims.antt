@@ -1,26 +1,23 @@
 -- Demand 3's claims of fitting and repeating, for the frames that go in and come out.
-use Prim.Native.Nat.{ℕ, zero, suc, _≤_}
-use mathlib.Core.Path.{_≡_, refl, sym, ap, _∙_, subst}
+use Prim.Native.Nat.{ℕ, _≤_}
+use mathlib.Core.Path.{_≡_, refl, sym, ap, _∙_}
 use mathlib.Core.List.{List, [], _∷_}
-use mathlib.Core.Option.{Option, none, some}
+use mathlib.Core.Option.{some}
 use mathlib.Core.Bool.{Bool, true, false, _&&_, _||_, not}
-use native.Mathlib.Omega.{arith}
-use lib.Dec.{T, leb, ltb, eqb, leb→le, le→leb, nltb→le}
+use lib.Dec.{T, leb, ltb, leb→le, le→leb, nltb→le}
 use lib.Arith.{le→nltb}
 use lib.ListN.{length}
 use lib.Ieee.Bits.{is-true, is-false}
-use lib.Ieee.Fits.{and-l, and-r, and-i}
+use lib.Ieee.Fits.{and-l, and-r}
 use Rattle.base.specs.Base.{if_then_else_, Result, ok, no, after}
 use Rattle.base.proofs.Okay.{Okay, okay-if, okay-after, okay-is}
-use Rattle.number.specs.Number.{allBytes}
 use Rattle.frame.specs.Tree.{Value, Schema}
 use Rattle.frame.specs.ValueFrame.{decodeValue, encodeValue}
-use Rattle.frame.specs.SchemaFrame.{decodeSchema}
 use Rattle.frame.specs.Sound.{keysRise, schemaSound}
 use Rattle.avro.specs.Resolve.{resolve}
 use Rattle.avro.specs.Defaults.{defaultsShort}
 use Rattle.hulmbax.specs.Answer.{answer, checkedSchema, checkedValue, written, workspaceSize}
-use Rattle.demand3.specs.Demand3.{nullablePairs, noStringMeets, fits, Accepted, Fits, Repeats, repeats, longEnough}
+use Rattle.demand3.specs.Demand3.{Accepted, Fits, Repeats, repeats, longEnough}
 use Rattle.frame.proofs.RoundTrip.{held, decode-encode}
 use Rattle.frame.proofs.ReadHeld.{decode-held, schema-held}
 use Rattle.types.proofs.HeldLeaves.{Kept}

@@ -1,28 +1,28 @@
 -- Under nullable pairs, and where no String meets Fixed or Decimal, an accepted result fits the schema and resolves to itself.
-use Prim.Native.Nat.{ℕ, zero, suc, _<_, _≤_}
+use Prim.Native.Nat.{ℕ, zero, suc, _<_}
 use native.Mathlib.Omega.{arith}
 use mathlib.Core.Path.{_≡_, refl, sym, ap, _∙_, subst}
 use mathlib.Core.List.{List, [], _∷_}
-use mathlib.Core.Option.{Option, none, some, Option·map}
+use mathlib.Core.Option.{Option, none, some}
 use mathlib.Core.Bool.{Bool, true, false, _&&_, _||_, not, and-false, Bool·beq}
 use lib.Dec.{T, leb, ltb, eqb, eqb→eq, eqb-refl, not-T, T-not, ltb→lt}
 use lib.ListN.{length, getD}
 use lib.Ieee.Bits.{is-true, is-false}
 use lib.Ieee.Fits.{and-l, and-r, and-i}
-use Rattle.base.specs.Base.{if_then_else_, Result, ok, no, after, accepted}
+use Rattle.base.specs.Base.{if_then_else_, ok, no, after, accepted}
 use Rattle.base.proofs.Okay.{Okay, okay-if, okay-after, okay-is, okay-any, Found}
-use Rattle.utf8.specs.Utf8.{isUtf8, codePoints}
+use Rattle.utf8.specs.Utf8.{isUtf8}
 use Rattle.text.specs.Text.{Text, same}
 use Rattle.decimal.specs.Decimal.{tooShortFor}
 use Rattle.uuid.specs.Uuid.{uuidOfText}
 use Rattle.scalar.specs.Conversion.{longOfInt, inInt, intOfLong, floatOfInt, floatOfLong, doubleOfInt, doubleOfLong, floatOfDouble, doubleOfFloat, parse-special-float}
 use Rattle.frame.specs.Kind
-use Rattle.frame.specs.Tree.{Value, Values, Entries, Schema, Fields, Variants, UuidForm, noItems, item, noEntries, entry, noFields, field, noVariants, variant, kindOf, is, number, octets, index, items, entries, peel, schemaKind}
-use Rattle.frame.specs.Sound.{schemaSound, fieldsSound, variantsSound, hasField, defaultAllowed, kindsSound, positionsSound, countVariants}
+use Rattle.frame.specs.Tree.{Value, Values, Entries, Schema, Fields, UuidForm, noItems, item, noEntries, entry, noFields, field, kindOf, is, number, octets, index, items, entries, peel, schemaKind}
+use Rattle.frame.specs.Sound.{schemaSound, fieldsSound, hasField, kindsSound}
 use Rattle.types.specs.Types.{Outcome, resolvePlain, resolve-null, resolve-boolean, resolve-int, resolve-long, resolve-float, resolve-double, resolve-bytes, resolve-string, resolveIntTime, resolveLongTime, special, byteItems, resolve-fixed, resolve-decimal, resolve-uuid, resolve-duration, resolve-enum}
 use Rattle.avro.specs.Union.{Trial}
 use Rattle.avro.specs.Resolve.{resolve, resolveFields, startDefault, trials}
-use Rattle.demand3.specs.Demand3.{nullablePair, nullablePairs, fieldPairs, variantPairs, isNull, onlyNullLeadsTo, fits, fieldsFit, variantFits, allItems, allEntries, symbolAt, meetings, fieldMeetings, variantMeetings, fieldMeeting, firstMeeting, firstVariantMeeting, notStringIntoBytes, noStringMeets}
+use Rattle.demand3.specs.Demand3.{nullablePair, nullablePairs, isNull, onlyNullLeadsTo, fits, fieldsFit, variantFits, allItems, allEntries, symbolAt, meetings, fieldMeetings, fieldMeeting, firstMeeting, notStringIntoBytes, noStringMeets}
 use Rattle.avro.specs.Resolve
 use Rattle.types.specs.Types
 use Rattle.avro.specs.Union

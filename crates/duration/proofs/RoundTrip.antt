@@ -1,11 +1,11 @@
 -- Little-endian numbers and durations, there and back. Assumes nothing.
-use Prim.Native.Nat.{ℕ, zero, suc, _+_, _-_, _*_, _/_, _%_, _^_, _≤_, _<_}
-use mathlib.Core.Path.{_≡_, refl, ap, ap₂, sym, _∙_, subst}
+use Prim.Native.Nat.{ℕ, zero, suc, _+_, _*_, _/_, _%_, _^_, _≤_, _<_}
+use mathlib.Core.Path.{_≡_, refl, ap, sym, _∙_}
 use mathlib.Core.List.{List, [], _∷_, _++_}
-use native.Mathlib.Nat.{pow-suc, lt-of-lt-of-le}
+use native.Mathlib.Nat.{pow-suc}
 use native.Mathlib.Omega.{arith}
 use lib.ListN.{length, getD, take, drop, length-drop, length-append, take-append-drop}
-use lib.Seq.{drop-cons, take-all, drop-drop, length-take-le, getD-take, getD-drop, take-at, drop-at}
+use lib.Seq.{drop-cons, take-all, drop-drop, length-take-le, take-at, drop-at}
 use Rattle.duration.specs.declared.Duration.{Duration}
 use Rattle.duration.specs.Duration.{littleEndian, littleBytes, durationOf, durationBytes}
 

@@ -1,6 +1,5 @@
 -- Each entry of the table of digit values is that of its character. Assumes nothing.
 use mathlib.Core.Path.{_≡_, _∙_, ap, sym}
-use mathlib.Core.List.{List, [], _∷_}
 use Prim.Native.Nat.{ℕ, zero, suc, _+_, _<_}
 use native.Mathlib.Nat.{add-zero, zero-add, le-of-suc-le-suc, not-suc-le-zero}
 use native.Mathlib.Omega.{arith}

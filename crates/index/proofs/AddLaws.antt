@@ -1,11 +1,11 @@
 -- A table after one entry more.
-use Prim.Native.Nat.{ℕ, zero, suc, _+_, _-_, _*_, _≤_, _<_}
+use Prim.Native.Nat.{ℕ, zero, suc, _+_, _*_, _≤_, _<_}
 use mathlib.Core.Path.{_≡_, refl, sym, ap, _∙_, subst}
 use mathlib.Core.List.{List, [], _∷_, _++_}
 use mathlib.Core.Bool.{Bool, true, false}
 use native.Mathlib.Omega.{arith}
 use native.Mathlib.Numerals.{add-one}
-use borrow.Author.Tests.{eqb-true, eqb-false, eq-eqb}
+use borrow.Author.Tests.{eqb-true, eqb-false}
 use lib.Dec.{eqb}
 use lib.ListN.{length, getD, drop, set, length-set, length-append, List·getD-append}
 use lib.Seq.{getD-set-same, getD-set-other, getD-at}
@@ -15,7 +15,6 @@ use Rattle.text.specs.Measured.{Reads}
 use Rattle.index.specs.Places.{textAt}
 use Rattle.index.specs.Hash.{hash}
 use Rattle.index.specs.Table.{rowOf, lastIn, Indexed}
-use Rattle.index.proofs.TableLaws.{lastIn-le}
 
 -- ---- rows with one entry more
 

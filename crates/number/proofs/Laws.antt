@@ -1,15 +1,14 @@
 -- Laws of numbers that are stored high byte first, over the width. Assumes nothing.
 use Prim.Native.Nat.{ℕ, zero, suc, _+_, _-_, _*_, _/_, _%_, _^_, _≤_, _<_}
 use mathlib.Core.Path.{_≡_, refl, ap, sym, _∙_, subst}
-use mathlib.Core.List.{List, [], _∷_, _++_, append-assoc}
-use native.Mathlib.Nat.{zero-add, add-zero, add-suc, suc-add, mul-one, one-mul, zero-mul, add-assoc, mul-assoc, mul-comm, add-comm, add-mul, pow-zero, pow-suc, mod-one, div-div-eq-div-mul, mod-lt, mod-eq-of-lt}
-use native.Mathlib.Numerals.{add-one}
+use mathlib.Core.List.{List, [], _∷_, _++_}
+use native.Mathlib.Nat.{zero-add, add-zero, add-suc, suc-add, mul-one, zero-mul, add-assoc, mul-assoc, mul-comm, add-mul, pow-suc, mod-one, div-div-eq-div-mul, mod-lt, mod-eq-of-lt}
 use native.Mathlib.Omega.{arith}
 use mathlib.Core.Bool.{Bool, true, false, _&&_}
 use lib.Dec.{T, ltb, ltb→lt, lt→ltb}
 use lib.Pow.{pow-add}
 use lib.Arith.{mod-mul, digits-div, digits-mod, digits-lt}
-use lib.ListN.{length, getD, take, drop, set, length-append, length-take, length-drop}
+use lib.ListN.{length, getD, take, drop, set, length-append, length-drop}
 use lib.Seq.{take-add, drop-drop, drop-cons, sets, sets-eq, length-sets, length-take-le}
 use Rattle.number.specs.Number.{allBytes, bigEndian, numberAt, bytesOf, written}
 

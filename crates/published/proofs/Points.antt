@@ -7,7 +7,6 @@ use native.Mathlib.Omega.{arith}
 use lib.ListN.{length}
 use Rattle.base.specs.Base.{if_then_else_}
 use Rattle.utf8.specs.Utf8.{allLatin1, latin1Count}
-use Rattle.utf8.specs.declared.Points.{Points}
 use Rattle.utf8.specs.declared.Points.the-variants.{Of, Above}
 
 pub count-of : (ps : List ℕ) (n : ℕ) → latin1Count ps ≡ Of n → (allLatin1 ps ≡ true) × (n ≡ length ps)

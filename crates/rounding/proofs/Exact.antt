@@ -1,13 +1,13 @@
 -- A pattern stands for its number of units: reading it back gives the number, for any width. So the conversions that lose nothing are seen to lose nothing: a whole number of at most p digits, and a Float as a Double. Assumes nothing.
-use mathlib.Core.Path.{_≡_, refl, sym, ap, _∙_, subst}
-use mathlib.Core.Logic.{_⊎_, inl, inr}
-use Prim.Native.Nat.{ℕ, zero, suc, _+_, _-_, _*_, _/_, _%_, _^_, _≤_, _<_}
-use native.Mathlib.Nat.{le-trans, le-of-eq, lt-of-lt-of-le, not-le-of-lt, zero-lt-suc, mul-one, zero-mul, zero-add, add-assoc, mul-assoc, suc-mul, add-sub-of-le, div-eq-of-lt, mod-eq-of-lt, mod-lt}
+use mathlib.Core.Path.{_≡_, refl, sym, ap, _∙_}
+use mathlib.Core.Logic.{inl, inr}
+use Prim.Native.Nat.{ℕ, suc, _+_, _-_, _*_, _/_, _%_, _^_, _≤_, _<_}
+use native.Mathlib.Nat.{lt-of-lt-of-le, not-le-of-lt, zero-lt-suc, mul-one, zero-mul, zero-add, add-assoc, suc-mul, add-sub-of-le, div-eq-of-lt, mod-eq-of-lt, mod-lt}
 use native.Mathlib.Omega.{arith}
 use mathlib.Core.Bool.{Bool, true, false, not}
 use lib.Dec.{T, ltb, ltb→lt, nltb→le, lit≤, lit<}
 use lib.Arith.{digits-div, digits-mod}
-use lib.Pow.{pow-add, pow-pos, pow-mono, shl-lt}
+use lib.Pow.{pow-mono, shl-lt}
 use lib.Ieee.{size}
 use lib.Ieee.Fits.{kept-lt}
 use Rattle.rounding.specs.Rounding.{low, reach, lead, infinity, Held, roundUnits, magnitude, fieldUnits, unitsOf, convertMagnitude}

@@ -1,5 +1,5 @@
 -- The law of `Patterns` at a whole number n from 1 to 2 ^ 63 and the format of the float: what `nearest_float_bits` gives. And the sign's bit beside it. Assumes nothing.
-use mathlib.Core.Path.{_≡_, refl, sym, ap, _∙_, subst}
+use mathlib.Core.Path.{_≡_, sym, ap, _∙_, subst}
 use Prim.Native.Nat.{ℕ, zero, suc, _+_, _-_, _*_, _/_, _%_, _^_, _≤_, _<_}
 use native.Mathlib.Nat.{lt-of-le-of-lt, le-trans, le-of-eq, mul-assoc, mul-le-mul-right, mul-div-cancel, pow-suc, zero-lt-suc}
 use native.Mathlib.Omega.{arith}

@@ -1,8 +1,8 @@
 -- The pattern of a rounded fraction of units, for any width: in the normal range, below it, and from the infinity on. Assumes nothing.
 use mathlib.Core.Path.{_≡_, refl, sym, ap, _∙_, subst}
-use mathlib.Core.Logic.{_⊎_, inl, inr}
-use Prim.Native.Nat.{ℕ, zero, suc, _+_, _-_, _*_, _/_, _%_, _^_, _≤_, _<_, zero-le, compare}
-use native.Mathlib.Nat.{le-refl, le-trans, le-of-eq, le-of-lt, le-antisymm, le-of-suc-le-suc, lt-irrefl, lt-of-lt-of-le, lt-of-le-of-lt, lt-of-not-le, not-le-of-lt, eq-zero-or-pos, mul-one, zero-mul, zero-add, mul-assoc, mul-right-comm, mul-comm, mul-le-mul-right, mul-pos, add-mul, div-lt-iff-lt-mul, le-div-iff-mul-le, le-of-mul-le-mul-right}
+use mathlib.Core.Logic.{inl, inr}
+use Prim.Native.Nat.{ℕ, suc, _+_, _-_, _*_, _/_, _%_, _^_, _≤_, _<_, compare}
+use native.Mathlib.Nat.{le-trans, le-of-eq, le-of-lt, le-antisymm, le-of-suc-le-suc, lt-irrefl, lt-of-lt-of-le, lt-of-le-of-lt, lt-of-not-le, not-le-of-lt, eq-zero-or-pos, mul-one, zero-mul, zero-add, mul-assoc, mul-comm, mul-le-mul-right, mul-pos, add-mul, div-lt-iff-lt-mul, le-div-iff-mul-le, le-of-mul-le-mul-right}
 use native.Mathlib.Omega.{arith}
 use mathlib.Core.Bool.{Bool, true, false, not, cond}
 use lib.Dec.{T, ltb, ltb→lt, nltb→le, lt→ltb}
@@ -11,7 +11,7 @@ use lib.Ieee.{size}
 use lib.Ieee.Digits.{size-le, size-lt}
 use lib.Ieee.Fits.{kept-lt}
 use lib.Ieee.Nearest.{closest, closest-same, nearest-ge}
-use Rattle.rounding.specs.Rounding.{low, reach, lead, infinity, roundUnits, magnitude}
+use Rattle.rounding.specs.Rounding.{reach, lead, infinity, roundUnits, magnitude}
 use Rattle.rounding.proofs.Rounding.{Kept, kept-is, drop, field-is, size-is, twice-lead}
 
 pow-le-back : (a l : ℕ) → 2 ^ a ≤ 2 ^ l → a ≤ l

@@ -2,18 +2,18 @@
 -- And the pattern of what it gives is k * lead + q: k digits were dropped, and q is what was kept. Assumes nothing.
 use mathlib.Core.Path.{_≡_, refl, sym, ap, _∙_, subst}
 use mathlib.Core.Logic.{_⊎_, inl, inr}
-use Prim.Native.Nat.{ℕ, zero, suc, _+_, _-_, _*_, _/_, _%_, _^_, _≤_, _<_, zero-le, compare}
-use native.Mathlib.Nat.{le-refl, le-trans, le-of-eq, le-of-lt, le-antisymm, lt-irrefl, lt-of-lt-of-le, lt-of-le-of-lt, lt-of-not-le, not-le-of-lt, eq-or-lt-of-le, eq-zero-or-pos, zero-lt-suc, mul-one, one-mul, mul-comm, mul-assoc, mul-right-comm, mul-le-mul-right, mul-lt-mul-of-pos-right, mul-pos, mul-div-cancel, mul-mod-left, suc-mul, add-sub-of-le, sub-add-cancel, div-div-eq-div-mul, le-div-iff-mul-le, pow-suc, pow-succ'}
+use Prim.Native.Nat.{ℕ, suc, _+_, _-_, _*_, _/_, _%_, _^_, _≤_, _<_, compare}
+use native.Mathlib.Nat.{le-refl, le-trans, le-of-eq, le-antisymm, lt-irrefl, lt-of-lt-of-le, lt-of-le-of-lt, lt-of-not-le, eq-or-lt-of-le, eq-zero-or-pos, mul-one, one-mul, mul-comm, mul-assoc, mul-le-mul-right, mul-lt-mul-of-pos-right, mul-pos, mul-div-cancel, mul-mod-left, suc-mul, sub-add-cancel, div-div-eq-div-mul, le-div-iff-mul-le, pow-suc, pow-succ'}
 use native.Mathlib.Omega.{arith}
-use mathlib.Core.Bool.{Bool, true, false, not, cond}
-use lib.Dec.{T, leb, ltb, leb→le, nleb→lt, ltb→lt, nltb→le}
+use mathlib.Core.Bool.{Bool, true, false, not}
+use lib.Dec.{T, leb, leb→le, nleb→lt}
 use lib.Pow.{pow-add, pow-pos, pow-mono, pow-lt, shl-lt}
-use lib.Ieee.{size, nearest}
+use lib.Ieee.{size}
 use lib.Ieee.Digits.{size-lt, size-le, size-reaches}
 use lib.Ieee.Fits.{kept-lt, nearest-le}
 use lib.Ieee.Nearest.{closest, nearest-ge}
-use Rattle.rounding.specs.Rounding.{low, reach, lead, infinity, Held, distance, lastDigit, Nearest, roundUnits, magnitude}
-use Rattle.rounding.proofs.Quotient.{Best, closest-best}
+use Rattle.rounding.specs.Rounding.{lead, Held, distance, lastDigit, Nearest, roundUnits}
+use Rattle.rounding.proofs.Quotient.{closest-best}
 
 -- ---- powers and digits
 pow-lt-back : (i p : ℕ) → 2 ^ i < 2 ^ p → i < p

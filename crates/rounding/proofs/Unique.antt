@@ -1,8 +1,8 @@
 -- Only one number of units is the nearest. And the nearest is 2 ^ reach or more, so that the pattern is the infinity's, exactly from half way between the largest finite value and 2 ^ reach on. For any number of digits p. Assumes nothing.
 use mathlib.Core.Path.{_≡_, refl, sym, ap, _∙_, subst}
 use mathlib.Core.Logic.{_⊎_, inl, inr}
-use Prim.Native.Nat.{ℕ, zero, suc, _+_, _-_, _*_, _/_, _%_, _^_, _≤_, _<_, zero-le}
-use native.Mathlib.Nat.{le-refl, le-trans, le-of-eq, le-of-lt, le-antisymm, lt-irrefl, lt-of-lt-of-le, lt-of-le-of-lt, lt-of-not-le, not-le-of-lt, eq-or-lt-of-le, eq-zero-or-pos, zero-lt-suc, one-mul, mul-comm, mul-assoc, add-mul, mul-le-mul-right, mul-lt-mul-of-pos-right, lt-of-mul-lt-mul-right, le-of-mul-le-mul-right, mul-div-cancel, suc-mul, sub-add-cancel, pow-suc, mul-pos, mul-right-comm, eq-of-mul-eq-mul-right}
+use Prim.Native.Nat.{ℕ, suc, _+_, _-_, _*_, _/_, _%_, _^_, _≤_, _<_}
+use native.Mathlib.Nat.{le-trans, le-of-eq, le-of-lt, le-antisymm, lt-irrefl, lt-of-lt-of-le, eq-or-lt-of-le, eq-zero-or-pos, one-mul, mul-comm, mul-assoc, add-mul, mul-le-mul-right, mul-lt-mul-of-pos-right, lt-of-mul-lt-mul-right, le-of-mul-le-mul-right, mul-div-cancel, suc-mul, sub-add-cancel, pow-suc, mul-pos, mul-right-comm, eq-of-mul-eq-mul-right}
 use native.Mathlib.Numerals.{add-one}
 use native.Mathlib.Omega.{arith}
 use mathlib.Core.Bool.{Bool, true, false, not}
@@ -14,8 +14,8 @@ use lib.Ieee.Fits.{two}
 use lib.Ieee.Scale.{grid}
 use lib.Ieee.Digits.{size-le, size-reaches}
 use lib.Ieee.Fits.{kept-lt}
-use Rattle.rounding.specs.Rounding.{low, reach, lead, infinity, Held, distance, lastDigit, Nearest, roundUnits, magnitude}
-use Rattle.rounding.proofs.Rounding.{Kept, shape, twice-lead, round-nearest}
+use Rattle.rounding.specs.Rounding.{low, lead, infinity, Held, distance, lastDigit, Nearest, roundUnits, magnitude}
+use Rattle.rounding.proofs.Rounding.{shape, twice-lead, round-nearest}
 use Rattle.rounding.proofs.Patterns.{finite-below, infinite-is}
 
 -- ---- a held number by the digits that its pattern keeps

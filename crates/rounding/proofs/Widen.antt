@@ -1,18 +1,17 @@
 -- A Float's pattern as a Double's: the value is held by the wider format, so nothing is rounded, and what the cast of the language gives has the pattern that the rule says.
 -- `round-exact` is the general law: a number of units that p digits hold rounds to itself. Assumes nothing.
 use mathlib.Core.Path.{_≡_, refl, sym, ap, _∙_, subst}
-use mathlib.Core.Logic.{_⊎_, inl, inr}
-use Prim.Native.Nat.{ℕ, zero, suc, _+_, _-_, _*_, _/_, _%_, _^_, _≤_, _<_, zero-le}
-use native.Mathlib.Nat.{le-refl, le-trans, le-of-eq, le-antisymm, le-of-lt, lt-of-lt-of-le, mul-one, mul-assoc, mul-div-cancel, eq-of-mul-eq-mul-right, mod-lt, zero-lt-suc, zero-add, not-le-of-lt}
+use Prim.Native.Nat.{ℕ, zero, suc, _+_, _-_, _*_, _/_, _%_, _^_, _≤_, _<_}
+use native.Mathlib.Nat.{le-of-eq, le-antisymm, le-of-lt, lt-of-lt-of-le, mul-one, mul-assoc, mul-div-cancel, eq-of-mul-eq-mul-right, mod-lt}
 use native.Mathlib.Omega.{arith}
 use mathlib.Core.Bool.{Bool, true, false, not, cond, true≢false}
-use lib.Dec.{T, leb, ltb, eqb, ltb→lt, nltb→le, lt→ltb, lit≤, lit<, not-T, eqb→eq}
+use lib.Dec.{T, leb, ltb, eqb, ltb→lt, nltb→le, lit≤, lit<, not-T, eqb→eq}
 use lib.Pow.{pow-add, pow-pos, pow-mono, shl-lt}
-use lib.Ieee.{Float, size, inf, nan, fin, binary32, binary64, odd, ofBits, ofFields, toBits, nanBits, isNan, fits}
+use lib.Ieee.{Float, size, inf, nan, binary32, binary64, odd, ofBits, ofFields, toBits, nanBits}
 use lib.Ieee.Exact.{HasValue, odd-sign}
-use lib.Ieee.Bits.{nanBits-above, cond-no, ofBits-toBits, nanBits-is}
+use lib.Ieee.Bits.{nanBits-above, cond-no}
 use borrow.Author.Tests.{le-ltb, lt-ltb}
-use Rattle.rounding.specs.Rounding.{low, reach, lead, signBit, infinity, Held, distance, Nearest, roundUnits, magnitude, signed, quietNan, unitsOf, fieldUnits, convert, convertMagnitude}
+use Rattle.rounding.specs.Rounding.{infinity, Held, distance, roundUnits, magnitude, signed, quietNan, unitsOf, fieldUnits, convert, convertMagnitude}
 use Rattle.rounding.proofs.Rounding.{round-nearest}
 use Rattle.rounding.proofs.Patterns.{finite-is}
 use Rattle.rounding.proofs.Bridge.{toBits-value, toBits-inf}

@@ -1,16 +1,15 @@
 -- From content to content: what a scalar that was read from bits, converted and written again gives. Assumes nothing.
 use mathlib.Core.Path.{_≡_, refl, sym, ap, _∙_, subst}
-use Prim.Native.Nat.{ℕ, suc, _+_, _-_, _*_, _%_, _^_, _≤_, _<_}
+use Prim.Native.Nat.{ℕ, suc, _+_, _-_, _*_, _%_, _^_, _<_}
 use native.Mathlib.Nat.{mod-eq-of-lt}
 use native.Mathlib.Omega.{arith}
 use mathlib.Core.Bool.{Bool, true, false, not, cond}
 use lib.IntN.{ℤ, pos, negsuc}
-use lib.Dec.{T, ltb, leb, lit≤, ltb→lt, nltb→le}
-use lib.Ieee as Ieee
-use lib.Ieee.{Format, binary32, binary64, prec, emax, top, toBits, ofBits, nanBits, isNan}
+use lib.Dec.{T, ltb, leb, lit≤, ltb→lt}
+use lib.Ieee.{Format, binary32, binary64, prec, emax, top, toBits, ofBits, nanBits}
 use lib.Ieee.Bits.{toBits-ofBits, nanBits-is, nanBits-above}
 use borrow.Author.Tests.{lt-ltb, ne-eqb}
-use Rattle.rounding.specs.Rounding.{low, infinity, signBit, quietNan, signed, magnitude, roundUnits, unitsOf, ofInteger, convert, convertMagnitude, ofTwos, toTwos}
+use Rattle.rounding.specs.Rounding.{infinity, signBit, quietNan, signed, ofInteger, convert, convertMagnitude, ofTwos, toTwos}
 use Rattle.base.specs.Base.{if_then_else_}
 use Rattle.scalar.specs.Conversion.{longOfInt}
 use Rattle.scalar.specs.Scalars.{floatOf, doubleOf, ofContent, contentOf, castContent, longCast, floatCast, doubleCast}

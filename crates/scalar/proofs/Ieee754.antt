@@ -1,21 +1,21 @@
 -- The conversions as IEEE 754 has them: section 4.3.1 (roundTiesToEven), section 5.4.1 (conversions) and section 6.2 (NaN).
 -- A format is p digits and the exponent e; n / d is a magnitude in units of the smallest value above zero, 2 ^ -(low p e). Assumes nothing.
 use mathlib.Core.Path.{_≡_, refl, sym, ap, _∙_, subst}
-use mathlib.Core.Logic.{_⊎_, inl, inr}
-use Prim.Native.Nat.{ℕ, suc, _+_, _-_, _*_, _/_, _%_, _^_, _≤_, _<_}
-use native.Mathlib.Nat.{le-trans, le-of-eq, lt-of-lt-of-le, mul-right-comm, mul-le-mul-right, mul-lt-mul-of-pos-right, zero-lt-suc, zero-add, lt-irrefl}
+use mathlib.Core.Logic.{_⊎_}
+use Prim.Native.Nat.{ℕ, suc, _+_, _-_, _*_, _%_, _^_, _≤_, _<_}
+use native.Mathlib.Nat.{lt-of-lt-of-le, zero-lt-suc, zero-add}
 use native.Mathlib.Omega.{arith}
-use mathlib.Core.Bool.{Bool, true, false, cond}
-use lib.IntN.{ℤ, pos, negsuc}
-use lib.Dec.{ltb, leb, lit≤, lit<}
+use mathlib.Core.Bool.{Bool, cond}
+use lib.IntN.{pos, negsuc}
+use lib.Dec.{leb, lit≤}
 use lib.Pow.{pow-pos}
 use borrow.Author.Tests.{lt-ltb, le-ltb}
-use Rattle.rounding.specs.Rounding.{low, reach, lead, signBit, infinity, quietNan, signed, Held, distance, lastDigit, Nearest, Rounds, roundUnits, magnitude, unitsOf, ofInteger, convert, convertMagnitude, ofTwos}
+use Rattle.rounding.specs.Rounding.{low, reach, signBit, infinity, quietNan, signed, Held, distance, lastDigit, Nearest, Rounds, roundUnits, magnitude, unitsOf, ofInteger, convert, convertMagnitude}
 use Rattle.rounding.proofs.Rounding.{round-nearest}
 use Rattle.rounding.proofs.Unique.{nearest-unique, from-half, to-half, float-infinite, float-finite}
 use Rattle.rounding.proofs.Patterns.{infinite-is, finite-below}
 use Rattle.rounding.proofs.Exact.{whole-exact, float-exact}
-use Rattle.scalar.specs.Conversion.{floatOfInt, floatOfLong, doubleOfInt, doubleOfLong, floatOfDouble, doubleOfFloat}
+use Rattle.scalar.specs.Conversion.{doubleOfInt}
 use Rattle.scalar.specs.Scalars.{floatOf, doubleOf, castContent, floatCast, doubleCast}
 use Rattle.scalar.proofs.Contents.{float-stays, double-stays}
 

@@ -1,10 +1,9 @@
 -- Every row of the table of specs/Vectors.antt is what the definitions give: one computed test, and a law that carries it to each row. Assumes nothing.
-use mathlib.Core.Path.{_≡_, refl, sym, subst}
+use mathlib.Core.Path.{_≡_, sym, subst}
 use Prim.Native.Nat.{ℕ}
-use mathlib.Core.Bool.{Bool, true, false, _&&_}
 use mathlib.Core.List.{List, [], _∷_, List·Memᴰ, List·Memᴰ·cases-cons, List·Memᴰ·not-nil}
-use mathlib.Core.Logic.{_⊎_, inl, inr}
-use lib.Dec.{T, eqb, eqb→eq}
+use mathlib.Core.Logic.{inl, inr}
+use lib.Dec.{T, eqb→eq}
 use lib.Ieee.{size}
 use lib.Ieee.Fits.{and-l, and-r}
 use Rattle.rounding.specs.Rounding.{ofInteger, convert, convertMagnitude, magnitude, roundUnits}

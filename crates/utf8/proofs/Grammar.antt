@@ -1,11 +1,11 @@
 -- RFC 3629, section 4: a text is well-formed if and only if the grammar's UTF8-octets derives it. Assumes nothing.
-use Prim.Native.Nat.{ℕ, zero, suc, _+_, _≤_, _<_}
-use mathlib.Core.Path.{_≡_, refl, ap, sym, _∙_, subst}
+use Prim.Native.Nat.{ℕ, zero, suc, _≤_, _<_}
+use mathlib.Core.Path.{_≡_, refl, ap, _∙_}
 use mathlib.Core.List.{List, [], _∷_}
 use mathlib.Core.Bool.{Bool, true, false}
 use native.Mathlib.Omega.{arith}
-use borrow.Author.Tests.{leb-true, leb-false, eqb-true, eqb-false, le-leb, lt-leb, eq-eqb, ne-eqb}
-use lib.Dec.{T, leb, eqb}
+use borrow.Author.Tests.{leb-true, leb-false, eqb-true, eqb-false, le-leb, lt-leb, ne-eqb}
+use lib.Dec.{leb, eqb}
 use Rattle.base.specs.Base.{if_then_else_}
 use Rattle.utf8.specs.Utf8.{leadOf, rest, stepOf, run, ended, isUtf8}
 use Rattle.utf8.specs.declared.Wait.{Wait}

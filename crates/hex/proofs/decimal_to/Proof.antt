@@ -1,10 +1,6 @@
-use mathlib.Core.Path.{_≡_, refl, sym, ap, _∙_}
-use mathlib.Core.List.{List, [], _∷_, _++_}
-use Prim.Native.Nat.{ℕ, _+_, _/_, _%_}
+use mathlib.Core.Path.{refl, sym}
 use native.Mathlib.Omega.{arith}
 use denote.Ref.{now}
-use lib.ListN.{length, drop}
-use Rattle.hex.specs.Hex.{digit, decimal}
 use Rattle.hex.proofs.DigitLaws.{decimal-one, decimal-two, front-one, front-two}
 use borrow.Author.Needs.{needs}
 use Rattle.hex.proofs.decimal_to.Statement.{statement}

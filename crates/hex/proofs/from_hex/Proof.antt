@@ -1,11 +1,7 @@
-use mathlib.Core.Path.{_≡_, refl, sym, ap, _∙_}
-use mathlib.Core.Option.{none, some}
-use Prim.Native.Nat.{ℕ, _+_, _*_, _-_, _/_, _≤_}
+use mathlib.Core.Path.{refl}
+use Prim.Native.Nat.{_-_, _≤_}
 use native.Mathlib.Omega.{arith}
 use borrow.Author.Needs.{needs}
-use denote.Ref.{now}
-use lib.ListN.{length, take, drop, getD}
-use Rattle.uuid.specs.Uuid.{hexDigit, hexBytes}
 use Rattle.uuid.proofs.Digits.{hexDigit-some, hexDigit-none}
 use Rattle.hex.specs.Line.{Holds}
 use Rattle.hex.proofs.LineLaws.{Read, read-nothing, read-pair, high-broken, low-broken, odd-broken, long-line, broken-line, whole-line, held}

@@ -1,9 +1,8 @@
 -- `hulmbax::code` meets its contract.
-use Prim.Native.Nat.{_≤_}
-use mathlib.Core.Path.{_≡_, refl, sym, ap, subst, _∙_}
+use mathlib.Core.Path.{sym, ap, subst, _∙_}
 use native.Mathlib.Omega.{arith}
 use mir.Syntax.{w32}
-use mir.ValLaws.{toZ-ofZ, toZ-pos}
+use mir.ValLaws.{toZ-pos}
 use borrow.Author.Needs.{needs}
 use Rattle.hulmbax.specs.Entry.{Short, codeOf}
 use Rattle.hulmbax.proofs.CodeLaws.{minus-fits, minus-is}

@@ -1,5 +1,5 @@
 -- `hulmbax::hulmbax_resolve` meets its contract: it is `resolve`, and its answer's code.
-use mathlib.Core.Path.{_≡_, refl, sym, ap, subst, _∙_}
+use mathlib.Core.Path.{sym, ap, subst, _∙_}
 use lib.ListN.{length}
 use mir.Syntax.{w32}
 use mir.ValLaws.{toZ-ofZ}

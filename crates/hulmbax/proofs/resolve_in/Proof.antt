@@ -1,6 +1,4 @@
-use native.Mathlib.Omega.{arith}
-use mathlib.Core.Path.{_≡_, refl, sym, ap, _∙_}
-use lib.ListN.{length}
+use mathlib.Core.Path.{_∙_}
 use Rattle.hulmbax.proofs.EntryLaws.{passed, stopped-schema, stopped-value, not-stopped}
 use borrow.Author.Needs.{needs}
 use Rattle.hulmbax.proofs.resolve_in.Statement.{statement}

@@ -1,6 +1,5 @@
 use borrow.Author.Needs.{needs}
 use mathlib.Core.Path.{_≡_, sym, ap, _∙_}
-use native.Mathlib.Omega.{arith}
 use Rattle.index.specs.Hash.{hash}
 use Rattle.index.specs.Places.{textAt}
 use Rattle.index.proofs.PlaceLaws.{place-inside, tail-reads, tail-text}

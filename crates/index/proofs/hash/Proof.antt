@@ -2,7 +2,6 @@ use Prim.Native.Nat.{_-_, _≤_, _<_}
 use mathlib.Core.Path.{_≡_, refl, sym, _∙_}
 use native.Mathlib.Omega.{arith}
 use native.Mathlib.Numerals.{add-one}
-use native.Mathlib.Nat.{mod-lt}
 use lib.ListN.{length, drop}
 use Rattle.index.specs.Hash.{hashFrom, hash}
 use Rattle.index.proofs.PlaceLaws.{hash-step, hash-end}

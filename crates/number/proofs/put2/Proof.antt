@@ -1,6 +1,6 @@
 use native.Mathlib.Omega.{arith}
-use mathlib.Core.Path.{_≡_, refl, ap, sym, _∙_, subst}
-use Prim.Native.Nat.{ℕ, suc, _+_, _/_, _%_}
+use mathlib.Core.Path.{_≡_, subst}
+use Prim.Native.Nat.{ℕ, suc, _/_, _%_}
 use denote.Ref.{now}
 use lib.ListN.{length-set, set}
 use native.Mathlib.Nat.{div-one}

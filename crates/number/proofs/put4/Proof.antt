@@ -1,6 +1,5 @@
 use native.Mathlib.Omega.{arith}
-use mathlib.Core.Path.{_≡_, refl, ap, sym, _∙_, subst}
-use Prim.Native.Nat.{ℕ, _+_, _*_}
+use mathlib.Core.Path.{_∙_}
 use denote.Ref.{now}
 use Rattle.number.proofs.Laws.{written-halves}
 use borrow.Author.Needs.{needs}

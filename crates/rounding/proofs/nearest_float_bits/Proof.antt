@@ -1,6 +1,6 @@
 -- `rounding::nearest_float_bits` meets its contract: the law of proofs/Longs.antt.
-use mathlib.Core.Path.{_≡_, sym, ap, _∙_}
-use Prim.Native.Nat.{ℕ, _+_, _-_, _*_, _^_, _<_}
+use mathlib.Core.Path.{sym, ap, _∙_}
+use Prim.Native.Nat.{ℕ, _+_, _-_, _*_, _^_}
 use native.Mathlib.Omega.{arith}
 use lib.Count.{leadingZeros}
 use Rattle.rounding.specs.Rounding.{magnitude, roundUnits}

@@ -1,7 +1,7 @@
 -- `utf8::ascii_front` meets its contract: the loop keeps the state at what is left. Assumes nothing.
 use native.Mathlib.Omega.{arith}
-use mathlib.Core.Path.{_≡_, refl, ap, sym, _∙_, subst}
-use Prim.Native.Nat.{ℕ, _+_, _-_, _≤_}
+use mathlib.Core.Path.{_≡_, refl, _∙_}
+use Prim.Native.Nat.{_+_, _-_, _≤_}
 use lib.ListN.{length, drop}
 use Rattle.utf8.specs.Utf8.{run}
 use Rattle.utf8.specs.declared.Wait.the-variants.{Start}

@@ -1,5 +1,4 @@
 -- `utf8::skip` meets its contract: ASCII leaves the state between characters as it is. Assumes nothing.
-use mathlib.Core.Path.{_≡_, sym}
 use denote.Ref.{now}
 use Rattle.utf8.proofs.Walk.{skipped}
 use borrow.Author.Needs.{needs}

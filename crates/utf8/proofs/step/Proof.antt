@@ -1,11 +1,10 @@
 -- `utf8::step` meets its contract: a way out for each test of the definition. Assumes nothing.
-use Prim.Native.Nat.{ℕ, suc, zero, _+_, _-_, _≤_}
+use Prim.Native.Nat.{ℕ, suc, zero, _-_}
 use Rattle.utf8.specs.declared.Wait.the-variants.{Tail}
-use borrow.Author.Tests.{le-leb, lt-leb, eq-eqb, ne-eqb}
-use mathlib.Core.Path.{_≡_, refl, ap, sym, _∙_, subst}
-use Rattle.utf8.specs.Utf8.{leadOf, stepOf, rest, run, isUtf8, ended}
+use borrow.Author.Tests.{le-leb, lt-leb}
+use mathlib.Core.Path.{_≡_, refl, ap}
+use Rattle.utf8.specs.Utf8.{stepOf, rest}
 use native.Mathlib.Omega.{arith}
-use native.Mathlib.Numerals.{sub-one}
 use borrow.Author.Needs.{needs}
 use Rattle.utf8.proofs.step.Statement.{statement}
 use Rattle.utf8.proofs.step.Tie as tie

@@ -1,5 +1,5 @@
 -- One case for each brace that is missing, and one for both. Assumes nothing.
-use mathlib.Core.Path.{_≡_, refl, ap, sym, _∙_}
+use mathlib.Core.Path.{_∙_}
 use borrow.Author.Tests.{eq-eqb, ne-eqb}
 use Rattle.uuid.specs.Forms.{inBraces}
 use borrow.Author.Needs.{needs}
