@@ -1,5 +1,5 @@
 // Times the leaves beside Rust's `as` and its UTF-8 test: for each conversion the time of one call of
-// each and their ratio, and for ASCII text the gigabytes a second. Each time is the least of many short runs.
+// each and their ratio, and for the UTF-8 test the time of a byte or of a short text. Each time is the least of many short runs.
 use std::hint::black_box;
 use std::time::Instant;
 
@@ -101,8 +101,28 @@ fn main() {
     beside!("float to double", &floats, leaves_float_to_double, float_to_double);
     beside!("double to float", &doubles, leaves_double_to_float, double_to_float);
 
-    let text = vec![b'a'; 65536];
-    let ours = time(text.len(), || unsafe { leaves_is_utf8(black_box(text.as_ptr()), text.len()) } as u64);
-    let theirs = time(text.len(), || std::str::from_utf8(black_box(&text)).is_ok() as u64);
-    println!("UTF-8, ASCII       {:5.2} GB/s  Rust {:5.2} GB/s", 1.0 / ours, 1.0 / theirs);
+    // texts of 60,000 bytes and more, by the nanoseconds for a byte, and short ones, by the nanoseconds for a text
+    let long = |part: &str| vec![part.repeat(60_000 / part.len() + 1).into_bytes()];
+    let mut word = |extra: &str| {
+        let n = 5 + next(&mut s) as usize % 16;
+        let mut t: Vec<u8> = (0..n).map(|_| b'a' + (next(&mut s) % 26) as u8).collect();
+        let at = next(&mut s) as usize % n;
+        t.splice(at..at, extra.bytes());
+        t
+    };
+    texts("UTF-8, ASCII", &long("a"), true);
+    texts("UTF-8, 2 and 3", &long("é€"), true);
+    texts("UTF-8, é in 11", &long("abcdefghijé"), true);
+    texts("UTF-8, 4", &long("𝄞"), true);
+    texts("UTF-8, Cyrillic", &long("Широкая электрификация южных губерний "), true);
+    texts("UTF-8, names", &(0..1000).map(|_| word("")).collect::<Vec<_>>(), false);
+    texts("UTF-8, names with é", &(0..1000).map(|_| word("é")).collect::<Vec<_>>(), false);
+}
+
+// The UTF-8 test beside Rust's own.
+fn texts(name: &str, texts: &[Vec<u8>], by_byte: bool) {
+    let n = if by_byte { texts.iter().map(|t| t.len()).sum() } else { texts.len() };
+    let ours = time(n, || texts.iter().map(|t| unsafe { leaves_is_utf8(black_box(t.as_ptr()), t.len()) } as u64).sum());
+    let theirs = time(n, || texts.iter().map(|t| std::str::from_utf8(black_box(t)).is_ok() as u64).sum());
+    println!("{:19} {:6.3} ns  Rust {:6.3} ns  ratio {:4.2}", name, ours, theirs, ours / theirs);
 }

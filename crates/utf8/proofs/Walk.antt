@@ -10,9 +10,8 @@ use borrow.Author.Tests.{le-leb}
 use lib.ListN.{length, take, drop, set, length-drop, take-append-drop}
 use lib.Seq.{take-all, drop-drop, take-suc-set, drop-set-lt}
 use Rattle.base.specs.Base.{if_then_else_}
-use Rattle.utf8.specs.Utf8.{run, isUtf8, pointsFrom, allLatin1, latin1Count}
+use Rattle.utf8.specs.Utf8.{Start, isUtf8, pointsFrom, allLatin1, latin1Count}
 use Rattle.utf8.specs.Front.{AtFront}
-use Rattle.utf8.specs.declared.Wait.the-variants.{Start}
 use Rattle.utf8.specs.declared.Points.{Points}
 use Rattle.utf8.specs.declared.Points.the-variants.{Of, Above}
 use Rattle.utf8.specs.declared.Front.{Front}
@@ -21,14 +20,6 @@ use Rattle.utf8.specs.declared.Front.the-variants.{Point, High}
 -- the part of a slice from a position on
 pub part-from : (s : List ℕ) (i : ℕ) → take (length s - i) (drop i s) ≡ drop i s
 part-from s i = take-all (length s - i) (drop i s) (simp length-drop (omega arith))
-
-pub skipped : (s : List ℕ) (i r : ℕ) → i ≤ length s → r ≤ length (take (length s - i) (drop i s))
-    → run Start (drop r (take (length s - i) (drop i s))) ≡ run Start (take (length s - i) (drop i s))
-    → (i ≤ i + r) × (i + r ≤ length s) × (run Start (drop (i + r) s) ≡ run Start (drop i s))
-skipped s i r h k e =
-    let k2 : r ≤ length s - i = simp (part-from, length-drop) at k in
-    let e2 : run Start (drop r (drop i s)) ≡ run Start (drop i s) = rw (part-from s i) at e in
-    (omega arith, omega arith, rw (drop-drop r i s) at e2)
 
 -- ---- the character at a position
 pub next-point : (s : List ℕ) (i : ℕ) (r : Front) (p k : ℕ) → i ≤ length s → AtFront (take (length s - i) (drop i s)) r → r ≡ Point p k

@@ -7,8 +7,7 @@ use native.Mathlib.Omega.{arith}
 use lib.ListN.{length, drop, length-drop, length-set, drop-of-length-le}
 use denote.Ref.{now}
 use borrow.Author.Needs.{needs}
-use Rattle.utf8.specs.Utf8.{isUtf8, pointsFrom, allLatin1}
-use Rattle.utf8.specs.declared.Wait.the-variants.{Start}
+use Rattle.utf8.specs.Utf8.{Start, isUtf8, pointsFrom, allLatin1}
 use Rattle.utf8.proofs.Walk.{part-from, next-point, next-high, filled, filled-set, filled-nil, filled-zero, allLatin1-tail}
 use Rattle.utf8.proofs.latin1.Statement.{statement}
 use Rattle.utf8.proofs.latin1.Tie as tie

@@ -7,8 +7,7 @@ use native.Mathlib.Omega.{arith}
 use lib.ListN.{length, drop, length-drop, drop-of-length-le}
 use denote.Ref.{now}
 use borrow.Author.Needs.{needs}
-use Rattle.utf8.specs.Utf8.{isUtf8, pointsFrom, latin1Count}
-use Rattle.utf8.specs.declared.Wait.the-variants.{Start}
+use Rattle.utf8.specs.Utf8.{Start, isUtf8, pointsFrom, latin1Count}
 use Rattle.utf8.proofs.Walk.{part-from, next-point, next-high, counted, counted-zero, counted-cons, counted-above, counted-nil}
 use Rattle.utf8.proofs.latin1_len.Statement.{statement}
 use Rattle.utf8.proofs.latin1_len.Tie as tie
