@@ -1,11 +1,11 @@
 -- A table after one entry more.
-use Prim.Native.Nat.{ℕ, zero, suc, _+_, _*_, _≤_, _<_}
+use Prim.Native.Nat.{ℕ, zero, suc, _+_, _-_, _*_, _≤_, _<_}
 use mathlib.Core.Path.{_≡_, refl, sym, ap, _∙_, subst}
 use mathlib.Core.List.{List, [], _∷_, _++_}
 use mathlib.Core.Bool.{Bool, true, false}
 use native.Mathlib.Omega.{arith}
 use native.Mathlib.Numerals.{add-one}
-use borrow.Author.Tests.{eqb-true, eqb-false}
+use borrow.Author.Tests.{eqb-true, eqb-false, eq-eqb}
 use lib.Dec.{eqb}
 use lib.ListN.{length, getD, drop, set, length-set, length-append, List·getD-append}
 use lib.Seq.{getD-set-same, getD-set-other, getD-at}
@@ -13,8 +13,8 @@ use Rattle.base.specs.Base.{if_then_else_}
 use Rattle.text.specs.Read.{readCounted}
 use Rattle.text.specs.Measured.{Reads}
 use Rattle.index.specs.Places.{textAt}
-use Rattle.index.specs.Hash.{hash}
-use Rattle.index.specs.Table.{rowOf, lastIn, Indexed}
+use Rattle.index.specs.Table.{row, rowOf, lastIn, Indexed}
+use Rattle.index.proofs.TableLaws.{lastIn-le}
 
 -- ---- rows with one entry more
 
@@ -23,7 +23,7 @@ module _ (s ps : List ℕ) (p : ℕ) where
   unfolding rowOf
   row-old i l = rw (List·getD-append ps (p ∷ []) 0 i l)
 
-  row-new : rowOf s (ps ++ p ∷ []) (length ps) ≡ hash (textAt s p)
+  row-new : rowOf s (ps ++ p ∷ []) (length ps) ≡ row (textAt s p)
   unfolding rowOf
   row-new = rw (getD-at ps p [] 0 (length ps) refl)
 
@@ -32,7 +32,7 @@ module _ (s ps : List ℕ) (p : ℕ) where
   lastIn-old h zero l = refl
   lastIn-old h (suc k) l = rw (row-old k (omega arith), lastIn-old h k (omega arith))
 
-  lastIn-new : (h : ℕ) → lastIn s (ps ++ p ∷ []) h (suc (length ps)) ≡ (if eqb (hash (textAt s p)) h then suc (length ps) else lastIn s ps h (length ps))
+  lastIn-new : (h : ℕ) → lastIn s (ps ++ p ∷ []) h (suc (length ps)) ≡ (if eqb (row (textAt s p)) h then suc (length ps) else lastIn s ps h (length ps))
   unfolding lastIn
   lastIn-new h = rw (row-new, lastIn-old h (length ps) (omega arith))
 
@@ -74,7 +74,7 @@ stored t n h p z l k =
 
 -- ---- the table with one entry more
 
-module _ (t t′ s ps : List ℕ) (h p : ℕ) (x : Indexed t s ps) (l : length ps < 1024) (k : h < 512) (e : h ≡ hash (textAt s p)) (z : 0 < p) (r : Reads (readCounted (drop p s))) (w : Stored t t′ (length ps) h p) where
+module _ (t t′ s ps : List ℕ) (h p : ℕ) (x : Indexed t s ps) (l : length ps < 1024) (k : h < 512) (e : h ≡ row (textAt s p)) (z : 0 < p) (r : Reads (readCounted (drop p s))) (w : Stored t t′ (length ps) h p) where
   more : length (ps ++ p ∷ []) ≡ suc (length ps)
   more = length-append ps (p ∷ []) ∙ add-one (length ps)
 
@@ -125,7 +125,7 @@ module _ (t t′ s ps : List ℕ) (h p : ℕ) (x : Indexed t s ps) (l : length p
       }
 
 -- the stores of `add`
-pub indexed-more : (t s ps : List ℕ) (n h p : ℕ) → n < 1024 → h < 512 → h ≡ hash (textAt s p) → 0 < p → Reads (readCounted (drop p s)) → Indexed t s ps → length ps ≡ n
+pub indexed-more : (t s ps : List ℕ) (n h p : ℕ) → n < 1024 → h < 512 → h ≡ row (textAt s p) → 0 < p → Reads (readCounted (drop p s)) → Indexed t s ps → length ps ≡ n
     → Indexed (set (set (set t (512 + 2 * n) p) (512 + 2 * n + 1) (getD (set t (512 + 2 * n) p) h 0)) h (n + 1)) s (ps ++ p ∷ [])
 indexed-more t s ps n h p l k e z r x q =
     let w : Stored t (set (set (set t (512 + 2 * n) p) (512 + 2 * n + 1) (getD (set t (512 + 2 * n) p) h 0)) h (n + 1)) (length ps) h p =

@@ -1,5 +1,5 @@
--- Laws of the text at a place, of the last place under a name, and of the row of a text.
-use Prim.Native.Nat.{ℕ, suc, _+_, _-_, _*_, _%_, _≤_, _<_}
+-- Laws of the text at a place, and of the last place under a name.
+use Prim.Native.Nat.{ℕ, suc, _-_, _≤_, _<_}
 use mathlib.Core.Path.{_≡_, refl, sym, ap, _∙_}
 use mathlib.Core.List.{List, [], _∷_, _++_}
 use mathlib.Core.Option.{some}
@@ -7,15 +7,14 @@ use mathlib.Core.Bool.{Bool, true, false, _||_, or-false}
 use native.Mathlib.Omega.{arith}
 use borrow.Author.Tests.{lt-ltb}
 use lib.Dec.{ltb}
-use lib.ListN.{length, getD, take, drop, length-drop, drop-of-length-le}
-use lib.Seq.{take-suc, take-all, drop-cons}
+use lib.ListN.{length, getD, take, drop, length-drop}
+use lib.Seq.{take-suc, take-all}
 use Rattle.base.specs.Base.{if_then_else_}
 use Rattle.text.specs.Text.{Text, same}
 use Rattle.text.specs.Read.{readCounted, readText}
 use Rattle.text.specs.Measured.{Reads}
 use Rattle.text.proofs.ReadLaws.{reads-counted, readText-counted}
 use Rattle.index.specs.Places.{textOf, textAt, lastFrom, lastPlace, hasPlace}
-use Rattle.index.specs.Hash.{hashFrom}
 
 -- ---- the text at a place
 
@@ -76,13 +75,3 @@ lastFrom-has f s (p ∷ ps) name h = go (same (textAt s p) name) (λ g. lastFrom
 pub lastPlace-has : (s ps : List ℕ) (name : Text) → ((i : ℕ) → i < length ps → 0 < getD ps i 0) → ltb 0 (lastPlace s ps name) ≡ hasPlace s ps name
 unfolding lastPlace
 lastPlace-has s ps name h = lastFrom-has 0 s ps name h ∙ or-false (hasPlace s ps name)
-
--- ---- the row of a text
-
-pub hash-step : (h : ℕ) (t : List ℕ) (i : ℕ) → i < length t → hashFrom ((h * 37 + getD t i 0) % 512) (drop (suc i) t) ≡ hashFrom h (drop i t)
-unfolding hashFrom
-hash-step h t i l = rw (drop-cons t i 0 l)
-
-pub hash-end : (h : ℕ) (t : List ℕ) (i : ℕ) → length t ≤ i → hashFrom h (drop i t) ≡ h
-unfolding hashFrom
-hash-end h t i l = rw (drop-of-length-le t {i = i} l)

@@ -1,11 +1,11 @@
 -- Following a row of a table: no entry of the name is passed over.
 use Prim.Native.Nat.{ℕ, zero, suc, _+_, _-_, _*_, _≤_, _<_}
-use mathlib.Core.Path.{_≡_, refl, sym, ap, _∙_}
-use mathlib.Core.List.{List, []}
+use mathlib.Core.Path.{_≡_, refl, sym, ap, _∙_, subst}
+use mathlib.Core.List.{List, [], _∷_}
 use mathlib.Core.Bool.{Bool, true, false}
 use native.Mathlib.Omega.{arith}
 use borrow.Author.Tests.{eqb-true, eq-eqb}
-use lib.Dec.{eqb}
+use lib.Dec.{T, eqb}
 use lib.ListN.{length, getD, take, drop, replicate, length-replicate, getD-replicate}
 use lib.Seq.{take-length}
 use Rattle.base.specs.Base.{if_then_else_}
@@ -14,8 +14,7 @@ use Rattle.text.specs.Read.{readCounted}
 use Rattle.text.specs.Measured.{Reads}
 use Rattle.text.proofs.TextLaws.{same→≡}
 use Rattle.index.specs.Places.{textAt, lastPlace}
-use Rattle.index.specs.Hash.{hash}
-use Rattle.index.specs.Table.{rowOf, lastIn, Indexed}
+use Rattle.index.specs.Table.{row, rowOf, lastIn, Indexed}
 use Rattle.index.proofs.PlaceLaws.{lastPlace-none, lastPlace-take}
 
 -- the table of no places
@@ -55,7 +54,7 @@ lastIn-row s ps h (suc k) l = go (eqb (rowOf s ps k) h) refl (lastIn-row s ps h 
     go false e i l = i l
 
 -- a text of another row is not the name
-other-row : (s ps : List ℕ) (k : ℕ) (name : Text) → eqb (rowOf s ps k) (hash name) ≡ false → same (textAt s (getD ps k 0)) name ≡ false
+other-row : (s ps : List ℕ) (k : ℕ) (name : Text) → eqb (rowOf s ps k) (row name) ≡ false → same (textAt s (getD ps k 0)) name ≡ false
 unfolding rowOf
 other-row s ps k name e = go (same (textAt s (getD ps k 0)) name) refl
   where
@@ -63,16 +62,16 @@ other-row s ps k name e = go (same (textAt s (getD ps k 0)) name) refl
     go false f = refl
     go true f =
         let q : textAt s (getD ps k 0) ≡ name = same→≡ _ _ (rw f tt) in
-        sym (eq-eqb (rowOf s ps k) (hash name) (ap hash q)) ∙ e
+        sym (eq-eqb (rowOf s ps k) (row name) (ap row q)) ∙ e
 
 -- what comes behind it in the first k entries is not the name
-pub lastIn-last : (s ps : List ℕ) (k : ℕ) (name : Text) → k ≤ length ps → lastPlace s (take (lastIn s ps (hash name) k) ps) name ≡ lastPlace s (take k ps) name
+pub lastIn-last : (s ps : List ℕ) (k : ℕ) (name : Text) → k ≤ length ps → lastPlace s (take (lastIn s ps (row name) k) ps) name ≡ lastPlace s (take k ps) name
 unfolding lastIn
 lastIn-last s ps zero name l = refl
-lastIn-last s ps (suc k) name l = go (eqb (rowOf s ps k) (hash name)) refl (lastIn-last s ps k name (omega arith))
+lastIn-last s ps (suc k) name l = go (eqb (rowOf s ps k) (row name)) refl (lastIn-last s ps k name (omega arith))
   where
-    go : (b : Bool) → eqb (rowOf s ps k) (hash name) ≡ b → lastPlace s (take (lastIn s ps (hash name) k) ps) name ≡ lastPlace s (take k ps) name
-        → lastPlace s (take (if b then suc k else lastIn s ps (hash name) k) ps) name ≡ lastPlace s (take (suc k) ps) name
+    go : (b : Bool) → eqb (rowOf s ps k) (row name) ≡ b → lastPlace s (take (lastIn s ps (row name) k) ps) name ≡ lastPlace s (take k ps) name
+        → lastPlace s (take (if b then suc k else lastIn s ps (row name) k) ps) name ≡ lastPlace s (take (suc k) ps) name
     go true e i = refl
     go false e i = i ∙ sym (lastPlace-take s ps k name (omega arith) ∙ rw (other-row s ps k name e))
 
@@ -81,21 +80,21 @@ lastIn-last s ps (suc k) name l = go (eqb (rowOf s ps k) (hash name)) refl (last
 -- a search for the name has come to entry i of its row: the last place is among the first i entries
 pub record Walk (s ps name : List ℕ) (i : ℕ) : Type 0 where
   pub within : i ≤ length ps
-  pub row : 0 < i → rowOf s ps (i - 1) ≡ hash name
+  pub row : 0 < i → rowOf s ps (i - 1) ≡ row name
   pub rest : lastPlace s (take i ps) name ≡ lastPlace s ps name
 
-walk-at : (s ps name : List ℕ) (k : ℕ) → k ≤ length ps → lastPlace s (take k ps) name ≡ lastPlace s ps name → Walk s ps name (lastIn s ps (hash name) k)
+walk-at : (s ps name : List ℕ) (k : ℕ) → k ≤ length ps → lastPlace s (take k ps) name ≡ lastPlace s ps name → Walk s ps name (lastIn s ps (row name) k)
 walk-at s ps name k l e =
     record {
-      within = omega (arith, lastIn-le s ps (hash name) k);
-      row = lastIn-row s ps (hash name) k;
+      within = omega (arith, lastIn-le s ps (row name) k);
+      row = lastIn-row s ps (row name) k;
       rest = lastIn-last s ps k name l ∙ e;
     }
 
 module _ (t s ps name : List ℕ) (x : Indexed t s ps) where
-  pub walk-start : (h : ℕ) → h ≡ hash name → h < 512 → Walk s ps name (getD t h 0)
+  pub walk-start : (h : ℕ) → h ≡ row name → h < 512 → Walk s ps name (getD t h 0)
   walk-start h e l =
-      let q : getD t h 0 ≡ lastIn s ps (hash name) (length ps) = x .heads h l ∙ ap (λ (g : ℕ). lastIn s ps g (length ps)) e in
+      let q : getD t h 0 ≡ lastIn s ps (row name) (length ps) = x .heads h l ∙ ap (λ (g : ℕ). lastIn s ps g (length ps)) e in
       rw q (walk-at s ps name (length ps) (omega arith) (ap (λ (l : List ℕ). lastPlace s l name) (take-length ps)))
 
   module _ (i : ℕ) (w : Walk s ps name i) (l : 0 < i) where
@@ -118,14 +117,14 @@ module _ (t s ps name : List ℕ) (x : Indexed t s ps) where
         let f : same (textAt s (getD ps (i - 1) 0)) name ≡ true = rw walk-place at e in
         walk-place ∙ sym (rw f at one) ∙ w .rest
 
-    next : getD t (510 + 2 * i + 1) 0 ≡ lastIn s ps (hash name) (i - 1)
+    next : getD t (510 + 2 * i + 1) 0 ≡ lastIn s ps (row name) (i - 1)
     next =
         let j : 510 + 2 * i + 1 ≡ 513 + 2 * (i - 1) = omega arith in
         ap (λ (k : ℕ). getD t k 0) j ∙ x .links (i - 1) (omega (arith, w .within)) ∙ ap (λ (h : ℕ). lastIn s ps h (i - 1)) (w .row l)
 
     -- links lead to earlier entries
     pub walk-less : getD t (510 + 2 * i + 1) 0 < i
-    walk-less = omega (arith, next, lastIn-le s ps (hash name) (i - 1))
+    walk-less = omega (arith, next, lastIn-le s ps (row name) (i - 1))
 
     pub walk-next : same (textAt s (getD t (510 + 2 * i) 0)) name ≡ false → Walk s ps name (getD t (510 + 2 * i + 1) 0)
     walk-next e =

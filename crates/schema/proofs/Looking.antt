@@ -1,5 +1,5 @@
 -- A record's field names, each held to the earlier ones: a name whose slot none of them took is new. Assumes nothing.
-use Prim.Native.Nat.{ℕ, zero, suc, _+_, _-_, _*_, _%_, _≤_, _<_}
+use Prim.Native.Nat.{ℕ, zero, suc, _+_, _-_, _≤_, _<_}
 use mathlib.Core.Path.{_≡_, refl, sym, ap, _∙_, subst}
 use mathlib.Core.List.{List, [], _∷_, _++_, append-assoc}
 use mathlib.Core.Option.{some}
@@ -7,7 +7,7 @@ use mathlib.Core.Bool.{Bool, true, false, _&&_, _||_, not}
 use native.Mathlib.Omega.{arith}
 use lib.Dec.{T, eqb}
 use lib.ListN.{length, length-set, getD, set, drop}
-use lib.Seq.{drop-drop, drop-cons, getD-set-same, getD-set-other}
+use lib.Seq.{drop-drop, getD-set-same, getD-set-other}
 use borrow.Author.Tests.{eqb-true, eqb-false, eq-eqb}
 use Rattle.base.specs.Base.{if_then_else_}
 use Rattle.text.specs.Text.{Text, same}
@@ -23,23 +23,10 @@ use Rattle.frame.proofs.Reading.{read-what, read-rest, bind-some, reads-some}
 use Rattle.frame.proofs.Measuring.{spans-rest}
 use Rattle.frame.proofs.Counting.{First, many-first, reads-list, Left, left-start, left-first, left-step, left-end}
 use Rattle.schema.specs.Parts.{Field, namesDiffer}
-use Rattle.schema.specs.Slot.{hashFrom, slots, lowOf, highOf, markOf, marked, mayBe, nameMark}
+use Rattle.schema.specs.Slot.{slots, lowOf, highOf, markOf, marked, mayBe, nameMark}
 use Rattle.schema.proofs.Checking.{seeks, name-is}
 
 -- ---- slots
-
-pub hash-step : (s : List ℕ) (h i : ℕ) → i < length s → hashFrom ((h * 16777619 + getD s i 0) % 4294967296) (drop (i + 1) s) ≡ hashFrom h (drop i s)
-unfolding hashFrom
-hash-step s h i l =
-    let q : i + 1 ≡ suc i = omega arith in
-    ap (λ j. hashFrom ((h * 16777619 + getD s i 0) % 4294967296) (drop j s)) q ∙ sym (ap (hashFrom h) (drop-cons s i 0 l))
-
-pub hash-end : (s : List ℕ) (h i : ℕ) → length s ≤ i → hashFrom h (drop i s) ≡ h
-unfolding hashFrom
-hash-end [] h zero l = refl
-hash-end [] h (suc i) l = refl
-hash-end (x ∷ s) h zero l = absurd (omega arith)
-hash-end (x ∷ s) h (suc i) l = hash-end s h i (omega arith)
 
 pub low-inside : (few : Bool) (h : ℕ) → lowOf few h < slots few
 unfolding lowOf slots

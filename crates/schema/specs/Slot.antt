@@ -1,15 +1,10 @@
 -- The two slots of a name in a table of 2,048 or 8,192, one in each half, and what stands there: equal names have the same.
-use Prim.Native.Nat.{ℕ, _+_, _*_, _/_, _%_}
-use mathlib.Core.List.{List, [], _∷_}
+use Prim.Native.Nat.{ℕ, _+_, _/_, _%_}
 use mathlib.Core.Bool.{Bool, true, false, _||_}
 use lib.Dec.{eqb}
 use Rattle.base.specs.Base.{if_then_else_}
 use Rattle.text.specs.Text.{Text}
-
--- a number below 2^32 that depends on every byte
-unfoldable pub hashFrom : ℕ → Text → ℕ
-hashFrom h [] = h
-hashFrom h (b ∷ bs) = hashFrom ((h * 16777619 + b) % 4294967296) bs
+use Rattle.text.specs.Hash.{hash}
 
 unfoldable pub slots : Bool → ℕ
 slots true = 2048
@@ -21,14 +16,14 @@ lowOf true h = h % 1024
 lowOf false h = h % 4096
 
 unfoldable pub highOf : Bool → ℕ → ℕ
-highOf true h = 1024 + h / 65536 % 1024
-highOf false h = 4096 + h / 65536 % 4096
+highOf true h = 1024 + h / 1048576 % 1024
+highOf false h = 4096 + h / 1048576 % 4096
 
 unfoldable pub lowSlot : Bool → Text → ℕ
-lowSlot few t = lowOf few (hashFrom 0 t)
+lowSlot few t = lowOf few (hash t)
 
 unfoldable pub highSlot : Bool → Text → ℕ
-highSlot few t = highOf few (hashFrom 0 t)
+highSlot few t = highOf few (hash t)
 
 -- a name's mark, and what a slot holds once a name took it: its mark, or 255 where it had another
 unfoldable pub markOf : ℕ → ℕ
@@ -42,4 +37,4 @@ unfoldable pub mayBe : ℕ → ℕ → Bool
 mayBe b v = eqb b v || eqb b 255
 
 unfoldable pub nameMark : Text → ℕ
-nameMark t = markOf (hashFrom 0 t)
+nameMark t = markOf (hash t)

@@ -13,20 +13,7 @@ ghost use Rattle.frame.specs.Readers.{readMany, readList};
 ghost use Rattle.frame.specs.SchemaFrame.{readField, readSchema, fieldsOf};
 ghost use Rattle.frame.specs.Sound.{hasField};
 ghost use Rattle.schema.specs.Parts.{Field, namesDiffer};
-ghost use Rattle.schema.specs.Slot.{hashFrom, slots, lowOf, highOf, markOf, marked, mayBe};
-
-// A number that equal names share.
-fn hash(name: &[u8]) -> usize
-    ensures { λ r. ⌜ r ≡ hashFrom 0 (now (name .entry)) ⌝ }
-{
-    let mut h: usize = 0;
-    let mut i: usize = 0;
-    while i < name.len() {
-        h = (h * 16777619 + (name[i] as usize)) % 4294967296;
-        i += 1;
-    }
-    h
-}
+ghost use Rattle.schema.specs.Slot.{slots, lowOf, highOf, markOf, marked, mayBe};
 
 // The slot in the lower half of the table.
 fn low_slot(h: usize, few: bool) -> usize
@@ -43,9 +30,9 @@ fn high_slot(h: usize, few: bool) -> usize
     ensures { λ r. ⌜ r ≡ highOf few h ⌝ }
 {
     if few {
-        return 1024 + h / 65536 % 1024;
+        return 1024 + h / 1048576 % 1024;
     }
-    4096 + h / 65536 % 4096
+    4096 + h / 1048576 % 4096
 }
 
 // The mark of a name.
@@ -120,7 +107,7 @@ fn differ_by(s: &[u8], depth: usize, few: bool, table: &mut [u8]) -> bool
     let mut done: usize = 0;
     while 0 < left {
         let name = text::content(&s[at..]);
-        let h = hash(name);
+        let h = text::hash(name);
         let j = low_slot(h, few);
         let k = high_slot(h, few);
         let v = mark(h);

@@ -1,7 +1,9 @@
 use borrow.Author.Needs.{needs}
+use Prim.Native.Nat.{_%_}
 use mathlib.Core.Path.{_≡_, sym, ap, _∙_}
-use Rattle.index.specs.Hash.{hash}
+use native.Mathlib.Omega.{arith}
 use Rattle.index.specs.Places.{textAt}
+use Rattle.index.specs.Table.{row}
 use Rattle.index.proofs.PlaceLaws.{place-inside, tail-reads, tail-text}
 use Rattle.index.proofs.AddLaws.{indexed-more}
 use Rattle.index.proofs.add.Statement.{statement}
@@ -65,11 +67,12 @@ element-write-t-3 : tie.Need-element-write-t-3
 element-write-t-3 c = search needs
 
 returns : tie.Need-returns
+unfolding row
 returns c ps x q =
     let k = c .before .before .before .before .before in
     let s = k .args .s .now in
     let e : textAt s (k .args .place) ≡ c .before .before .content .result .now = tail-text s (k .args .place) _ _ (c .before .before .content .ensures .0) in
-    indexed-more (k .args .t .now) s ps (k .args .n) (c .before .hash .result) (k .args .place) (k .pre .0) (c .before .hash .ensures .1) (c .before .hash .ensures .0 ∙ ap hash (sym e)) (k .pre .1 .0) (k .pre .1 .1 .1) x q
+    indexed-more (k .args .t .now) s ps (k .args .n) (c .before .hash .result % 512) (k .args .place) (k .pre .0) (omega arith) (ap (λ h. h % 512) (c .before .hash .ensures) ∙ ap row (sym e)) (k .pre .1 .0) (k .pre .1 .1 .1) x q
 
 pub add-spec : {M : Type 1} → statement M
 add-spec =

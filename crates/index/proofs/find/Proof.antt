@@ -1,5 +1,5 @@
 use borrow.Author.Needs.{needs}
-use Prim.Native.Nat.{ℕ, _+_, _*_, _≤_, _<_}
+use Prim.Native.Nat.{ℕ, _+_, _*_, _%_, _≤_, _<_}
 use mathlib.Core.Path.{_≡_, sym, ap, _∙_}
 use mathlib.Core.List.{List}
 use native.Mathlib.Omega.{arith}
@@ -8,7 +8,7 @@ use Rattle.text.specs.Text.{same}
 use Rattle.text.specs.Read.{readCounted}
 use Rattle.text.specs.Measured.{Reads}
 use Rattle.index.specs.Places.{textAt}
-use Rattle.index.specs.Table.{Indexed}
+use Rattle.index.specs.Table.{row, Indexed}
 use Rattle.index.proofs.TableLaws.{Walk, walk-start, walk-text, walk-hit, walk-less, walk-next, walk-end}
 use Rattle.index.proofs.PlaceLaws.{place-inside, tail-reads, tail-text}
 use Rattle.index.proofs.find.Statement.{statement}
@@ -66,14 +66,16 @@ shared-slice-read-i : tie.Need-shared-slice-read-i Inv-loop μ-loop
 shared-slice-read-i c = omega arith
 
 cast-i : tie.Need-cast-i Inv-loop μ-loop
+unfolding row
 cast-i c =
     let z = c .before .before .before .before .before in
-    let w : Walk (z .args .s .now) (z .pre .0) (z .args .name .now) (getD (z .args .t .now) (c .before .hash .result) 0) =
-    walk-start (z .args .t .now) (z .args .s .now) (z .pre .0) (z .args .name .now) (z .pre .1) (c .before .hash .result) (c .before .hash .ensures .0) (c .before .hash .ensures .1) in
+    let w : Walk (z .args .s .now) (z .pre .0) (z .args .name .now) (getD (z .args .t .now) (c .before .hash .result % 512) 0) =
+    walk-start (z .args .t .now) (z .args .s .now) (z .pre .0) (z .args .name .now) (z .pre .1) (c .before .hash .result % 512) (ap (λ h. h % 512) (c .before .hash .ensures)) (omega arith) in
     omega (arith, w .within, z .pre .1 .few)
 
 loop-holds : tie.Need-loop-holds Inv-loop μ-loop
-loop-holds c = λ ps x. walk-start (c .before .before .before .before .before .args .t .now) (c .before .before .before .before .before .args .s .now) ps (c .before .before .before .before .before .args .name .now) x (c .before .hash .result) (c .before .hash .ensures .0) (c .before .hash .ensures .1)
+unfolding row
+loop-holds c = λ ps x. walk-start (c .before .before .before .before .before .args .t .now) (c .before .before .before .before .before .args .s .now) ps (c .before .before .before .before .before .args .name .now) x (c .before .hash .result % 512) (ap (λ h. h % 512) (c .before .hash .ensures)) (omega arith)
 
 mul-e : tie.Need-mul-e Inv-loop μ-loop
 mul-e c = omega (arith, few c)
