@@ -1,6 +1,5 @@
 pub mod Finishes
 pub mod Computed
 pub mod EntryLaws
-pub mod ClearLaws
 pub mod Bounds
 pub mod CodeLaws

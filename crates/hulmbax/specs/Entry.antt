@@ -1,10 +1,11 @@
 -- The entry's answer as document 01's number and length, and what its steps say.
 use Prim.Native.Nat.{ℕ, _≤_}
+use lib.Dec.{ltb}
 use lib.IntN.{ℤ, pos, negℤ}
 use mathlib.Core.Path.{_≡_}
 use mathlib.Core.List.{List}
 use lib.ListN.{length}
-use Rattle.base.specs.Base.{Result, ok, no}
+use Rattle.base.specs.Base.{if_then_else_, Result, ok, no}
 use Rattle.frame.specs.Tree.{Value, Schema}
 use Rattle.frame.specs.ValueFrame.{decodeValue}
 use Rattle.frame.specs.SchemaFrame.{decodeSchema}
@@ -38,3 +39,8 @@ codeOf (Refused e) = negℤ (pos e)
 unfoldable pub Short : Resolved → Type 0
 Short (Accepted n) = n ≤ 65535
 Short (Refused e) = Unit {0}
+
+-- how much of the workspace is cleared without a look: the result, and 4,096 bytes in any case
+unfoldable pub usedFor : Resolved → ℕ
+usedFor (Accepted n) = if ltb n 4096 then 4096 else n
+usedFor (Refused e) = 4096

@@ -10,23 +10,12 @@ ghost use Rattle.frame.specs.ValueFrame.{decodeValue, encodeValue};
 ghost use Rattle.frame.specs.SchemaFrame.{decodeSchema};
 ghost use Rattle.avro.specs.Resolve;
 ghost use Rattle.hulmbax.specs.Answer.{answer, bufferAfter, checkedSchema, checkedValue, workspaceAfter, written};
-ghost use Rattle.hulmbax.specs.Entry.{Passed, Short, codeOf, resolvedOf, stopOf};
+ghost use Rattle.hulmbax.specs.Entry.{Passed, Short, codeOf, resolvedOf, stopOf, usedFor};
 
 // A result of so many bytes, or the number of what stopped the record.
 pub enum Resolved {
     Accepted(usize),
     Refused(u8),
-}
-
-// Fills a slice with zeros.
-fn clear(b: &mut [u8])
-    ensures { λ _. ⌜ now (b .exit) ≡ replicate (length (now (b .entry))) 0 ⌝ }
-{
-    let mut i: usize = 0;
-    while i < b.len() {
-        b[i] = 0;
-        i += 1;
-    }
 }
 
 // What stops the schema: 2, 3 or 4, or 0.
@@ -95,6 +84,21 @@ fn resolve_in(schema: &[u8], record: &[u8], result: &mut [u8], work: &mut [u8]) 
     hand_over(schema, record, result, work)
 }
 
+// How much of the workspace an answer has used, at a guess: its result, and what trials and defaults leave at the front.
+fn used(r: Resolved) -> usize
+    ensures { λ n. ⌜ n ≡ usedFor r ⌝ }
+{
+    match r {
+        Resolved::Accepted(n) => {
+            if n < 4096 {
+                return 4096;
+            }
+            n
+        }
+        Resolved::Refused(_) => 4096,
+    }
+}
+
 pub fn resolve(schema: &[u8], record: &[u8], result: &mut [u8], workspace: &mut [u8]) -> Resolved
     ensures answer { λ r. ⌜ r ≡ resolvedOf (answer (now (schema .entry)) (now («record» .entry)) (length (now (result .entry))) (length (now (workspace .entry)))) ⌝ }
     ensures contents { λ _. ⌜ now (result .exit) ≡ bufferAfter (answer (now (schema .entry)) (now («record» .entry)) (length (now (result .entry))) (length (now (workspace .entry)))) (now (result .entry)) ⌝ }
@@ -104,7 +108,7 @@ pub fn resolve(schema: &[u8], record: &[u8], result: &mut [u8], workspace: &mut 
         return Resolved::Refused(1);
     }
     let r = resolve_in(schema, record, result, &mut workspace[..65536]);
-    clear(&mut workspace[..65536]);
+    buffer::clear(&mut workspace[..65536], used(r));
     r
 }
 

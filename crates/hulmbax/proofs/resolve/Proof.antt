@@ -7,7 +7,6 @@ use Rattle.hulmbax.proofs.resolve.Statement.{statement}
 use Rattle.hulmbax.proofs.resolve.Tie as tie
 use Rattle.hulmbax.proofs.resolve.Reads as reads
 use Rattle.hulmbax.proofs.resolve.Lts as lts
-use Rattle.hulmbax.proofs.clear.Reads as clear-reads
 use Rattle.hulmbax.proofs.resolve_in.Reads as resolve-in-reads
 
 returns : tie.Need-returns
@@ -32,6 +31,9 @@ slice-aggregate-clear c =
     let ly : length y ≡ 65536 = c .before .before .before .before .before .resolve-in .kept .1 .1 .1 .0 ∙ length-take-le 65536 w (c .before .before .before .before .before .before .before .before .if1 .left) in
     sym (ap length (take-at y (drop 65536 w) 65536 ly) ∙ ly)
 
+used-requires : tie.Need-used-requires
+used-requires c κs = search needs
+
 clear-requires : tie.Need-clear-requires
 clear-requires c κs = search needs
 
@@ -42,7 +44,7 @@ same-length-2 : tie.Need-same-length-2
 same-length-2 c = search needs
 
 returns-2 : tie.Need-returns-2
-returns-2 c = cleared (c .before .before .before .before .before .before .before .before .before .before .before .before .before .before .before .before .args .schema .now) (c .before .before .before .before .before .before .before .before .before .before .before .before .before .before .before .before .args .«record» .now) (c .before .before .before .before .before .before .before .before .before .before .before .before .before .before .before .before .args .result .now) (c .before .before .before .before .before .before .before .before .resolve-in .last .1 .1 .0) (c .before .before .before .before .before .before .before .before .before .before .before .before .before .before .before .before .args .workspace .now) (c .before .before .before .before .before .before .before .before .resolve-in .last .1 .1 .1 .0) (c .before .before .clear .last .0) (c .before .before .before .before .before .before .before .before .resolve-in .result) (c .before .before .before .before .before .before .before .before .before .before .before .if1 .left) (c .before .before .before .before .before .before .before .before .resolve-in .kept .1 .1 .1 .0) (c .before .before .clear .ensures) (c .before .before .before .before .before .before .before .before .resolve-in .ensures)
+returns-2 c = cleared (c .before .before .before .before .before .before .before .before .before .before .before .before .before .before .before .before .before .args .schema .now) (c .before .before .before .before .before .before .before .before .before .before .before .before .before .before .before .before .before .args .«record» .now) (c .before .before .before .before .before .before .before .before .before .before .before .before .before .before .before .before .before .args .result .now) (c .before .before .before .before .before .before .before .before .before .resolve-in .last .1 .1 .0) (c .before .before .before .before .before .before .before .before .before .before .before .before .before .before .before .before .before .args .workspace .now) (c .before .before .before .before .before .before .before .before .before .resolve-in .last .1 .1 .1 .0) (c .before .before .clear .last .0) (c .before .before .before .before .before .before .before .before .before .resolve-in .result) (c .before .before .before .before .before .before .before .before .before .before .before .before .if1 .left) (c .before .before .before .before .before .before .before .before .before .resolve-in .kept .1 .1 .1 .0) (c .before .before .clear .ensures) (c .before .before .before .before .before .before .before .before .before .resolve-in .ensures)
 
 pub resolve-spec : {M : Type 1} → statement M
 resolve-spec =
@@ -54,6 +56,7 @@ resolve-spec =
     resolve-in-requires
     slice-relend-prefix-clear
     slice-aggregate-clear
+    used-requires
     clear-requires
     same-length
     same-length-2

@@ -1,13 +1,14 @@
 use native.Mathlib.Omega.{arith}
+use native.Mathlib.Numerals.{add-one}
 use Prim.Native.Nat.{_-_, _≤_}
-use mathlib.Core.Path.{_≡_, refl}
+use mathlib.Core.Path.{_≡_, sym, ap, _∙_, refl}
 use mathlib.Core.List.{_++_}
-use lib.ListN.{length, drop, replicate, length-set}
-use Rattle.hulmbax.proofs.ClearLaws.{clear-step, clear-end}
-use Rattle.hulmbax.proofs.clear.Statement.{statement}
-use Rattle.hulmbax.proofs.clear.Tie as tie
-use Rattle.hulmbax.proofs.clear.Reads as reads
-use Rattle.hulmbax.proofs.clear.Lts as lts
+use lib.ListN.{length, drop, replicate, length-set, drop-of-length-le}
+use Rattle.buffer.proofs.ClearLaws.{clear-step, clear-end}
+use Rattle.buffer.proofs.clearing.fill.Statement.{statement}
+use Rattle.buffer.proofs.clearing.fill.Tie as tie
+use Rattle.buffer.proofs.clearing.fill.Reads as reads
+use Rattle.buffer.proofs.clearing.fill.Lts as lts
 
 abbrev Inv-loop : tie.InvT-loop
 Inv-loop b₀ i₀ b i = (i ≤ length b₀) × ((b ≡ replicate i 0 ++ drop i b₀) × (length b ≡ length b₀))
@@ -36,8 +37,8 @@ same-length c = c .before .loop .inv .1 .1
 returns : tie.Need-returns Inv-loop μ-loop
 returns c = clear-end (c .before .before .args .b .now) (c .before .loop .b) (c .before .loop .i) (c .before .loop .inv .0) (omega (arith, c .before .loop .inv .1 .1)) (c .before .loop .inv .1 .0)
 
-pub clear-spec : {M : Type 1} → statement M
-clear-spec =
+pub fill-spec : {M : Type 1} → statement M
+fill-spec =
     tie.close
     (tie.spec
     Inv-loop
