@@ -3,7 +3,7 @@ use Prim.Native.Nat.{ℕ, _+_, _-_}
 use mathlib.Core.Path.{_≡_, refl, ap, _∙_}
 use mathlib.Core.List.{List}
 use mathlib.Core.Option.{Option, none, some}
-use mathlib.Core.Bool.{Bool, _&&_}
+use mathlib.Core.Bool.{Bool, true, _&&_}
 use native.Mathlib.Omega.{arith}
 use lib.ListN.{length, drop, getD, length-drop}
 use lib.Seq.{drop-drop}
@@ -22,7 +22,17 @@ use Rattle.frame.specs.Sound.{defaultAllowed}
 use Rattle.frame.proofs.Reading.{bind-some, bind-none, mapRead}
 use Rattle.frame.proofs.Measuring.{Long, long, held, checks-some, checks-broken}
 use Rattle.frame.proofs.SchemaNodes.{schema-node}
-use Rattle.schema.specs.Parts.{fieldSound}
+use Rattle.schema.specs.Parts.{bare, fieldSound}
+
+-- ---- a kind without content
+
+pub bare-content : (node : List ℕ → Read Schema) (k : ℕ) (s : List ℕ) → bare k ≡ true → readSchemaContent node k s ≡ some (Schema.Plain k, s)
+unfolding readSchemaContent
+bare-content node k s e = rw e refl
+
+pub bare-checks : (d : ℕ) (s : List ℕ) → (d ≡ 0 → ⊥) → (length s ≡ 0 → ⊥) → bare (getD s 0 0) ≡ true → Checks schemaSound (readSchema d s) s (Of 1 true)
+unfolding Checks schemaSound
+bare-checks d s f g e = (omega arith, (Schema.Plain (getD s 0 0), (schema-node d s f g ∙ bare-content _ _ _ e, refl)))
 
 -- ---- the answer for a node from that for its content
 

@@ -4,6 +4,7 @@ use Prim.Native.Nat.{ℕ, zero, suc, _+_, _-_, _*_, _≤_, _<_}
 use mathlib.Core.Path.{_≡_, refl, sym, ap, _∙_, subst}
 use mathlib.Core.List.{List, [], _∷_}
 use mathlib.Core.Option.{none, some}
+use mathlib.Core.Bool.{true}
 use native.Mathlib.Omega.{arith}
 use lib.ListN.{length, drop, getD}
 use lib.Seq.{drop-drop}
@@ -20,7 +21,8 @@ use Rattle.frame.proofs.Reading.{mapRead, reads-eq, reads-first, option-zero, o
 use Rattle.frame.proofs.Measuring.{spans-some, spans-eq, spans-drop, spans-map, spans-after, reads-behind, number-spans, text-spans}
 use Rattle.frame.proofs.Counting.{list-many, reads-list}
 use Rattle.frame.proofs.SchemaNodes.{schema-there, schema-opened}
-use Rattle.schema.proofs.Nodes.{array-content, map-content, record-content}
+use Rattle.schema.specs.Parts.{bare}
+use Rattle.schema.proofs.Nodes.{bare-content, array-content, map-content, record-content}
 
 -- ---- two and three things, one behind the other
 
@@ -192,6 +194,9 @@ module _ (node : List ℕ → Read Schema) (s : List ℕ) where
 module _ (d : ℕ) (s : List ℕ) (r : Reads (readSchema d s)) where
   pub known-content : Reads (readSchemaContent (readSchema (d - 1)) (getD s 0 0) (drop 1 s))
   known-content = reads-eq _ _ (schema-opened d s r _ refl) r
+
+  pub bare-spans : bare (getD s 0 0) ≡ true → Spans (readSchema d s) s 1
+  bare-spans e = spans-some _ s 1 (Schema.Plain (getD s 0 0)) (schema-there d s r .1) (schema-opened d s r _ refl ∙ bare-content _ _ _ e)
 
   pub schema-spans : (n : ℕ) → Spans (readSchemaContent (readSchema (d - 1)) (getD s 0 0) (drop 1 s)) (drop 1 s) n → Spans (readSchema d s) s (1 + n)
   schema-spans n w = spans-eq _ _ s _ (schema-opened d s r _ refl) (spans-drop _ s 1 n (schema-there d s r .1) w)

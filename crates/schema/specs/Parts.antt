@@ -1,11 +1,18 @@
--- What the parts of a record are asked one by one, and what they are asked together.
+-- What schema nodes are asked: whether a kind has no content, and the parts of a record one by one and together.
+use Prim.Native.Nat.{ℕ}
 use mathlib.Core.List.{List, [], _∷_}
 use mathlib.Core.Option.{Option}
-use mathlib.Core.Bool.{Bool, true, _&&_, not}
+use mathlib.Core.Bool.{Bool, true, _&&_, _||_, not}
+use lib.Dec.{leb}
 use Rattle.text.specs.Text.{Text}
+use Rattle.frame.specs.Kind
 use Rattle.frame.specs.Tree.{Value, Schema}
 use Rattle.frame.specs.SchemaFrame.{fieldsOf, variantsOf}
 use Rattle.frame.specs.Sound.{schemaSound, variantsSound, defaultAllowed, hasField}
+
+-- a kind without content, whose node is its kind byte alone
+abbrev pub bare : ℕ → Bool
+bare k = leb k Kind.String || (leb Kind.Date k && leb k Kind.LocalTimestampNanos)
 
 abbrev pub Field : Type 0
 Field = Text × Option Value × Schema

@@ -2,6 +2,7 @@
 use crate::default::default_check;
 use crate::leaf::leaf_check;
 use crate::names::names_differ;
+use crate::plain::is_bare;
 use crate::table::leads_check;
 use crate::table::positions_check;
 use frame::Checked;
@@ -26,6 +27,9 @@ pub fn schema_check(s: &[u8], depth: usize) -> Checked
         return Checked::Broken;
     }
     let kind = s[0];
+    if is_bare(kind) {
+        return Checked::Of(1, true);
+    }
     let Checked::Of(m, ok) = content_check(&s[1..], kind, depth - 1) else {
         return Checked::Broken;
     };

@@ -4,6 +4,7 @@ use frame::Checked;
 use number::read2;
 use text::content;
 use value::value_len;
+ghost use mathlib.Core.Path.{_≡_};
 ghost use Prim.Native.Nat.{_≤_, _<_};
 ghost use Rattle.text.specs.Read.{readNumber, readText};
 ghost use Rattle.text.specs.Measured.{Reads};
@@ -11,6 +12,20 @@ ghost use Rattle.frame.specs.Readers.{readList, readOption};
 ghost use Rattle.frame.specs.ValueFrame.{readValue};
 ghost use Rattle.frame.specs.SchemaFrame.{readLead, readSchemaContent, readSchema};
 ghost use Rattle.frame.specs.Checks.{Spans};
+ghost use Rattle.schema.specs.Parts.{bare};
+
+// Whether a kind has no content: most fields of a record are of such a kind.
+pub fn is_bare(kind: u8) -> bool
+    ensures { λ r. ⌜ r ≡ bare kind ⌝ }
+{
+    if kind <= 0x07 {
+        return true;
+    }
+    if kind < 0x10 {
+        return false;
+    }
+    kind <= 0x18
+}
 
 // 00, or 01 and a value.
 pub fn default_skip(s: &[u8]) -> usize

@@ -2,6 +2,7 @@
 // or default is looked into again.
 use crate::plain::default_skip;
 use crate::plain::enum_skip;
+use crate::plain::is_bare;
 use crate::plain::leads_skip;
 use crate::plain::leaf_skip;
 use crate::plain::positions_skip;
@@ -17,7 +18,11 @@ pub fn schema_len(s: &[u8], depth: usize) -> usize
     requires { ⌜ Reads (readSchema depth (now s)) ⌝ }
     ensures { λ r. ⌜ Spans (readSchema depth (now (s .entry))) (now (s .entry)) r ⌝ }
 {
-    1 + content_skip(&s[1..], s[0], depth - 1)
+    let kind = s[0];
+    if is_bare(kind) {
+        return 1;
+    }
+    1 + content_skip(&s[1..], kind, depth - 1)
 }
 
 fn content_skip(s: &[u8], kind: u8, depth: usize) -> usize

@@ -2,7 +2,7 @@
 use borrow.Author.Needs.{needs}
 use native.Mathlib.Omega.{arith}
 use Prim.Native.Nat.{ℕ, _+_, _*_, _<_}
-use mathlib.Core.Path.{refl, _∙_}
+use mathlib.Core.Path.{refl, sym, _∙_}
 use lib.ListN.{length-drop}
 use Rattle.frame.specs.Tree.{Schema}
 use Rattle.frame.specs.Readers.{readList}
@@ -13,7 +13,7 @@ use Rattle.frame.proofs.Measuring.{long, measured-broken, held, checks-none, ch
 use Rattle.frame.proofs.Counting.{list-short, Going, going-list, going-next, going-none, going-end}
 use Rattle.frame.proofs.SchemaNodes.{schema-bottom, schema-empty, schema-node}
 use Rattle.schema.specs.Parts.{fieldSound, eachSound, noUnions}
-use Rattle.schema.proofs.Nodes.{node-checks, array-content, map-content, union-none, union-broken₂, union-broken₃, field-none, field-broken₂, field-broken₃, field-checks, record-none}
+use Rattle.schema.proofs.Nodes.{bare-checks, node-checks, array-content, map-content, union-none, union-broken₂, union-broken₃, field-none, field-broken₂, field-broken₃, field-checks, record-none}
 use Rattle.schema.proofs.Checking.{variant-there, variants-step, count-there, union-checks, record-checks}
 use borrow.Fn.Kinds.{In}
 use borrow.Fn.PlainCycle.{Measures, is, falls, and}
@@ -41,6 +41,7 @@ use Rattle.schema.proofs.check.+content_check+field_check+fields_check+
 use Rattle.number.proofs.read2.Reads as read2-reads
 use Rattle.schema.proofs.default.default_check.Reads as default-check-reads
 use Rattle.schema.proofs.leaf.leaf_check.Reads as leaf-check-reads
+use Rattle.schema.proofs.plain.is_bare.Reads as is-bare-reads
 use Rattle.schema.proofs.names.names_differ.Reads as names-differ-reads
 use Rattle.frame.proofs.both.Reads as both-reads
 use Rattle.schema.proofs.table.leads_check.Reads as leads-check-reads
@@ -167,7 +168,7 @@ abbrev record-check-claims : ℕ → record-check-lts.Claims
 record-check-claims t = (fields-check-below t, fields-check.Post, names-differ-reads.Asked, names-differ-reads.Learnt, both-reads.Asked, both-reads.Learnt)
 
 abbrev schema-check-claims : ℕ → schema-check-lts.Claims
-schema-check-claims t = (content-check-below t, content-check.Post)
+schema-check-claims t = (is-bare-reads.Asked, is-bare-reads.Learnt, content-check-below t, content-check.Post)
 
 abbrev union-check-claims : ℕ → union-check-lts.Claims
 union-check-claims t = (variants-check-below t, variants-check.Post, read2-reads.Asked, read2-reads.Learnt, leads-check-reads.Asked, leads-check-reads.Learnt, positions-check-reads.Asked, positions-check-reads.Learnt, both-reads.Asked, both-reads.Learnt)
@@ -276,13 +277,16 @@ schema-check-returns-2 : (t : ℕ) → schema-check-lts.Need-returns-2 (schema-c
 schema-check-returns-2 t c = checks-none _ _ _ (schema-empty _ _ (c .if2 .taken))
 
 schema-check-returns-3 : (t : ℕ) → schema-check-lts.Need-returns-3 (schema-check-claims t) (schema-check-at t) schema-check.Post
-schema-check-returns-3 t c = checks-none _ _ _ (schema-node _ _ (c .before .before .before .before .before .before .if1 .left) (c .before .before .before .before .before .if2 .left) ∙ checks-broken _ _ _ (rw (c .enum-told .given .1, suffix) at (c .before .before .content-check .ensures)))
-
-schema-check-add-t7 : (t : ℕ) → schema-check-lts.Need-add-t7 (schema-check-claims t) (schema-check-at t) schema-check.Post
-schema-check-add-t7 t c = omega (arith, (held _ _ _ _ _ (rw (c .before .m .given .1, suffix) at (c .before .before .before .content-check .ensures))) .inside, length-drop 1 (c .before .before .before .before .before .before .before .before .before .args .s .now), c .before .before .before .before .before .before .before .before .before .good)
+schema-check-returns-3 t c = bare-checks _ _ (c .before .before .before .before .if1 .left) (c .before .before .before .if2 .left) (sym (c .before .is-bare .ensures) ∙ c .if3 .taken)
 
 schema-check-returns-4 : (t : ℕ) → schema-check-lts.Need-returns-4 (schema-check-claims t) (schema-check-at t) schema-check.Post
-schema-check-returns-4 t c = node-checks _ _ _ _ (c .before .before .before .before .before .before .before .if1 .left) (c .before .before .before .before .before .before .if2 .left) (rw (c .before .m .given .1, suffix) at (c .before .before .before .content-check .ensures))
+schema-check-returns-4 t c = checks-none _ _ _ (schema-node _ _ (c .before .before .before .before .before .before .before .before .if1 .left) (c .before .before .before .before .before .before .before .if2 .left) ∙ checks-broken _ _ _ (rw (c .enum-told .given .1, suffix) at (c .before .before .content-check .ensures)))
+
+schema-check-add-t7 : (t : ℕ) → schema-check-lts.Need-add-t7 (schema-check-claims t) (schema-check-at t) schema-check.Post
+schema-check-add-t7 t c = omega (arith, (held _ _ _ _ _ (rw (c .before .m .given .1, suffix) at (c .before .before .before .content-check .ensures))) .inside, length-drop 1 (c .before .before .before .before .before .before .before .before .before .before .before .args .s .now), c .before .before .before .before .before .before .before .before .before .before .before .good)
+
+schema-check-returns-5 : (t : ℕ) → schema-check-lts.Need-returns-5 (schema-check-claims t) (schema-check-at t) schema-check.Post
+schema-check-returns-5 t c = node-checks _ _ _ _ (c .before .before .before .before .before .before .before .before .before .if1 .left) (c .before .before .before .before .before .before .before .before .if2 .left) (rw (c .before .m .given .1, suffix) at (c .before .before .before .content-check .ensures))
 
 union-check-returns : (t : ℕ) → union-check-lts.Need-returns (union-check-claims t) (union-check-at t) union-check.Post
 union-check-returns t c = checks-none _ _ _ (union-none _ _ (checks-broken _ _ _ (rw (c .enum-told .given .1) at (c .before .before .variants-check .ensures))))
@@ -363,6 +367,6 @@ pub +content-check+field-check+fields-check+record-check+schema-check+union-chec
     (λ t. field-check-lts.spec (field-check-claims t) (field-check-at t) field-check.Post (λ c κs. search needs) (λ c. search needs) (λ c. search needs) (field-check-returns t) (field-check-sub-default-check t) (field-check-part-default-check-start t) (λ c. search needs) (λ c κs. search needs) (λ c. search needs) (λ c. search needs) (field-check-returns-2 t) (field-check-add-e t) (field-check-sub-schema-check t) (field-check-part-schema-check-start t) (λ c. search needs) (λ c κs. search needs) (λ c. search needs) (λ c. search needs) (field-check-returns-3 t) (field-check-add-t12 t) (λ c κs. search needs) (field-check-returns-4 t))
     (λ t. fields-check-lts.spec (fields-check-claims t) (fields-check-at t) fields-check.Post fields-check-Inv-loop fields-check-μ-loop (fields-check-returns t) (λ c κs. search needs) (fields-check-cast-left t) (fields-check-loop-holds t) (fields-check-sub-field-check t) (fields-check-part-field-check-start t) (λ c. search needs) (λ c κs. search needs) (λ c. search needs) (λ c. search needs) (fields-check-returns-2 t) (λ c κs. search needs) (fields-check-add-at t) (λ c. search needs) (λ c. search needs) (fields-check-loop-again t) (fields-check-returns-3 t))
     (λ t. record-check-lts.spec (record-check-claims t) (record-check-at t) record-check.Post (λ c κs. search needs) (λ c. search needs) (λ c. search needs) (record-check-returns t) (record-check-names-differ-requires t) (λ c κs. search needs) (record-check-returns-2 t))
-    (λ t. schema-check-lts.spec (schema-check-claims t) (schema-check-at t) schema-check.Post (schema-check-returns t) (schema-check-returns-2 t) (λ c. search needs) (λ c. search needs) (λ c. search needs) (λ c. search needs) (λ c. search needs) (λ c κs. search needs) (λ c. search needs) (λ c. search needs) (schema-check-returns-3 t) (schema-check-add-t7 t) (schema-check-returns-4 t))
+    (λ t. schema-check-lts.spec (schema-check-claims t) (schema-check-at t) schema-check.Post (schema-check-returns t) (schema-check-returns-2 t) (λ c. search needs) (λ c κs. search needs) (schema-check-returns-3 t) (λ c. search needs) (λ c. search needs) (λ c. search needs) (λ c. search needs) (λ c κs. search needs) (λ c. search needs) (λ c. search needs) (schema-check-returns-4 t) (schema-check-add-t7 t) (schema-check-returns-5 t))
     (λ t. union-check-lts.spec (union-check-claims t) (union-check-at t) union-check.Post (λ c κs. search needs) (λ c. search needs) (λ c. search needs) (union-check-returns t) (union-check-read2-requires t) (union-check-cast-count t) (union-check-sub-leads-check t) (union-check-part-leads-check-start t) (λ c. search needs) (λ c κs. search needs) (λ c. search needs) (λ c. search needs) (union-check-returns-2 t) (union-check-add-e t) (union-check-sub-positions-check t) (union-check-part-positions-check-start t) (λ c. search needs) (λ c κs. search needs) (λ c. search needs) (λ c. search needs) (union-check-returns-3 t) (λ c κs. search needs) (λ c κs. search needs) (λ c κs. search needs) (union-check-add-t16 t) (union-check-returns-4 t))
     λ t. variants-check-lts.spec (variants-check-claims t) (variants-check-at t) variants-check.Post variants-check-Inv-loop variants-check-μ-loop (variants-check-returns t) (λ c κs. search needs) (variants-check-cast-left t) (variants-check-loop-holds t) (variants-check-sub-schema-check t) (variants-check-part-schema-check-start t) (λ c. search needs) (λ c κs. search needs) (λ c. search needs) (λ c. search needs) (variants-check-returns-2 t) (variants-check-shared-slice-read-kind t) (λ c κs. search needs) (λ c κs. search needs) (variants-check-add-at t) (λ c. search needs) (λ c. search needs) (variants-check-loop-again t) (variants-check-returns-3 t)

@@ -1,6 +1,7 @@
 -- `schema::skip::schema_len`, `field_len` and the functions that they call in a cycle meet their contracts. The depth falls from a node to its content; within a depth, from the content over its parts to a node. Assumes nothing.
 use native.Mathlib.Omega.{arith}
 use Prim.Native.Nat.{ℕ, _+_, _*_, _<_}
+use mathlib.Core.Path.{sym, _∙_}
 use lib.ListN.{length, length-drop}
 use Rattle.text.proofs.ReadLaws.{reads-text}
 use Rattle.frame.specs.SchemaFrame.{readField, readSchema}
@@ -8,7 +9,7 @@ use Rattle.frame.proofs.Reading.{suffix, reads-eq}
 use Rattle.frame.proofs.Measuring.{spans-le, spans-eq}
 use Rattle.frame.proofs.Counting.{reads-list, Walking, walking-start, walking-first, walking-step, walking-end}
 use Rattle.frame.proofs.SchemaNodes.{schema-there}
-use Rattle.schema.proofs.Skipping.{text-held, leaf-content, array-known, array-spans, map-known, map-spans, record-known, record-spans, union-variants, union-leads, union-positions, union-spans, field-text, field-default, field-schema, field-spans, known-content, schema-spans}
+use Rattle.schema.proofs.Skipping.{text-held, leaf-content, array-known, array-spans, map-known, map-spans, record-known, record-spans, union-variants, union-leads, union-positions, union-spans, field-text, field-default, field-schema, field-spans, known-content, bare-spans, schema-spans}
 use borrow.Author.Needs.{needs}
 use borrow.Fn.Kinds.{In}
 use borrow.Fn.PlainCycle.{Measures, is, falls, and}
@@ -34,6 +35,7 @@ use Rattle.text.proofs.content.Reads as content-reads
 use Rattle.number.proofs.read2.Reads as read2-reads
 use Rattle.schema.proofs.plain.default_skip.Reads as default-skip-reads
 use Rattle.schema.proofs.plain.enum_skip.Reads as enum-skip-reads
+use Rattle.schema.proofs.plain.is_bare.Reads as is-bare-reads
 use Rattle.schema.proofs.plain.leads_skip.Reads as leads-skip-reads
 use Rattle.schema.proofs.plain.leaf_skip.Reads as leaf-skip-reads
 use Rattle.schema.proofs.plain.positions_skip.Reads as positions-skip-reads
@@ -104,7 +106,7 @@ abbrev fields-skip-claims : ℕ → fields-skip-lts.Claims
 fields-skip-claims t = (read2-reads.Asked, read2-reads.Learnt, field-len-below t, field-len.Post)
 
 abbrev schema-len-claims : ℕ → schema-len-lts.Claims
-schema-len-claims t = (content-skip-below t, content-skip.Post)
+schema-len-claims t = (is-bare-reads.Asked, is-bare-reads.Learnt, content-skip-below t, content-skip.Post)
 
 abbrev union-skip-claims : ℕ → union-skip-lts.Claims
 union-skip-claims t = (variants-skip-below t, variants-skip.Post, leads-skip-reads.Asked, leads-skip-reads.Learnt, positions-skip-reads.Asked, positions-skip-reads.Learnt)
@@ -208,26 +210,29 @@ fields-skip-loop-again t c = walking-step (readField (readSchema (c .before .bef
 fields-skip-returns : (t : ℕ) → fields-skip-lts.Need-returns (fields-skip-claims t) (fields-skip-at t) fields-skip.Post fields-skip-Inv-loop fields-skip-μ-loop
 fields-skip-returns t c = walking-end (readField (readSchema (c .before .before .before .before .args .depth))) (c .before .before .before .before .args .s .now) _ _ (c .before .loop .inv) (c .loop-test .left)
 
-schema-len-sub-content-skip : (t : ℕ) → schema-len-lts.Need-sub-content-skip (schema-len-claims t) (schema-len-at t) schema-len.Post
-schema-len-sub-content-skip t c = schema-there (c .before .args .depth) (c .before .args .s .now) (c .before .pre .1) .1
-
-schema-len-part-content-skip-start : (t : ℕ) → schema-len-lts.Need-part-content-skip-start (schema-len-claims t) (schema-len-at t) schema-len.Post
-schema-len-part-content-skip-start t c = schema-there (c .before .args .depth) (c .before .args .s .now) (c .before .pre .1) .1
-
-schema-len-shared-slice-read-content-skip : (t : ℕ) → schema-len-lts.Need-shared-slice-read-content-skip (schema-len-claims t) (schema-len-at t) schema-len.Post
-schema-len-shared-slice-read-content-skip t c = schema-there (c .before .before .before .args .depth) (c .before .before .before .args .s .now) (c .before .before .before .pre .1) .1
-
-schema-len-sub-content-skip-2 : (t : ℕ) → schema-len-lts.Need-sub-content-skip-2 (schema-len-claims t) (schema-len-at t) schema-len.Post
-schema-len-sub-content-skip-2 t c = let z = schema-there (c .before .before .before .args .depth) (c .before .before .before .args .s .now) (c .before .before .before .pre .1) .0 in omega arith
-
-schema-len-content-skip-requires : (t : ℕ) → schema-len-lts.Need-content-skip-requires (schema-len-claims t) (schema-len-at t) schema-len.Post
-schema-len-content-skip-requires t c κs = let z = schema-there (c .before .before .before .args .depth) (c .before .before .before .args .s .now) (c .before .before .before .pre .1) .0 in (omega arith, rw suffix (known-content (c .before .before .before .args .depth) (c .before .before .before .args .s .now) (c .before .before .before .pre .1)))
-
-schema-len-add-result : (t : ℕ) → schema-len-lts.Need-add-result (schema-len-claims t) (schema-len-at t) schema-len.Post
-schema-len-add-result t c = omega (arith, schema-there (c .before .before .before .before .args .depth) (c .before .before .before .before .args .s .now) (c .before .before .before .before .pre .1) .1, spans-le _ _ _ (rw suffix at (c .content-skip .ensures)), length-drop 1 (c .before .before .before .before .args .s .now), c .before .before .before .before .good)
+schema-len-shared-slice-read-kind : (t : ℕ) → schema-len-lts.Need-shared-slice-read-kind (schema-len-claims t) (schema-len-at t) schema-len.Post
+schema-len-shared-slice-read-kind t c = schema-there (c .before .before .args .depth) (c .before .before .args .s .now) (c .before .before .pre .1) .1
 
 schema-len-returns : (t : ℕ) → schema-len-lts.Need-returns (schema-len-claims t) (schema-len-at t) schema-len.Post
-schema-len-returns t c = schema-spans (c .before .before .before .before .args .depth) (c .before .before .before .before .args .s .now) (c .before .before .before .before .pre .1) _ (rw suffix at (c .content-skip .ensures))
+schema-len-returns t c = bare-spans (c .before .before .before .before .args .depth) (c .before .before .before .before .args .s .now) (c .before .before .before .before .pre .1) (sym (c .before .is-bare .ensures) ∙ c .if1 .taken)
+
+schema-len-sub-content-skip : (t : ℕ) → schema-len-lts.Need-sub-content-skip (schema-len-claims t) (schema-len-at t) schema-len.Post
+schema-len-sub-content-skip t c = schema-there (c .before .before .before .before .args .depth) (c .before .before .before .before .args .s .now) (c .before .before .before .before .pre .1) .1
+
+schema-len-part-content-skip-start : (t : ℕ) → schema-len-lts.Need-part-content-skip-start (schema-len-claims t) (schema-len-at t) schema-len.Post
+schema-len-part-content-skip-start t c = schema-there (c .before .before .before .before .args .depth) (c .before .before .before .before .args .s .now) (c .before .before .before .before .pre .1) .1
+
+schema-len-sub-content-skip-2 : (t : ℕ) → schema-len-lts.Need-sub-content-skip-2 (schema-len-claims t) (schema-len-at t) schema-len.Post
+schema-len-sub-content-skip-2 t c = let z = schema-there (c .before .before .before .before .before .args .depth) (c .before .before .before .before .before .args .s .now) (c .before .before .before .before .before .pre .1) .0 in omega arith
+
+schema-len-content-skip-requires : (t : ℕ) → schema-len-lts.Need-content-skip-requires (schema-len-claims t) (schema-len-at t) schema-len.Post
+schema-len-content-skip-requires t c κs = let z = schema-there (c .before .before .before .before .before .args .depth) (c .before .before .before .before .before .args .s .now) (c .before .before .before .before .before .pre .1) .0 in (omega arith, rw suffix (known-content (c .before .before .before .before .before .args .depth) (c .before .before .before .before .before .args .s .now) (c .before .before .before .before .before .pre .1)))
+
+schema-len-add-result : (t : ℕ) → schema-len-lts.Need-add-result (schema-len-claims t) (schema-len-at t) schema-len.Post
+schema-len-add-result t c = omega (arith, schema-there (c .before .before .before .before .before .before .args .depth) (c .before .before .before .before .before .before .args .s .now) (c .before .before .before .before .before .before .pre .1) .1, spans-le _ _ _ (rw suffix at (c .content-skip .ensures)), length-drop 1 (c .before .before .before .before .before .before .args .s .now), c .before .before .before .before .before .before .good)
+
+schema-len-returns-2 : (t : ℕ) → schema-len-lts.Need-returns-2 (schema-len-claims t) (schema-len-at t) schema-len.Post
+schema-len-returns-2 t c = schema-spans (c .before .before .before .before .before .before .args .depth) (c .before .before .before .before .before .before .args .s .now) (c .before .before .before .before .before .before .pre .1) _ (rw suffix at (c .content-skip .ensures))
 
 union-skip-variants-skip-requires : (t : ℕ) → union-skip-lts.Need-variants-skip-requires (union-skip-claims t) (union-skip-at t) union-skip.Post
 union-skip-variants-skip-requires t c κs = (omega arith, union-variants _ _ (c .before .pre .1))
@@ -294,6 +299,6 @@ pub +content-skip+field-len+fields-skip+schema-len+union-skip+variants-skip-spec
     (λ t. content-skip-lts.spec (content-skip-claims t) (content-skip-at t) content-skip.Post (content-skip-schema-len-requires t) (content-skip-returns t) (content-skip-schema-len-requires-2 t) (content-skip-returns-2 t) (content-skip-union-skip-requires t) (content-skip-returns-3 t) (content-skip-fields-skip-requires t) (content-skip-returns-4 t) (content-skip-enum-skip-requires t) (content-skip-returns-5 t) (content-skip-leaf-skip-requires t) (content-skip-returns-6 t))
     (λ t. field-len-lts.spec (field-len-claims t) (field-len-at t) field-len.Post (field-len-content-requires t) (λ c. search needs) (field-len-sub-default-skip t) (field-len-part-default-skip-start t) (λ c. search needs) (field-len-default-skip-requires t) (field-len-add-e t) (field-len-sub-schema-len t) (field-len-part-schema-len-start t) (λ c. search needs) (field-len-schema-len-requires t) (field-len-add-result t) (field-len-returns t))
     (λ t. fields-skip-lts.spec (fields-skip-claims t) (fields-skip-at t) fields-skip.Post fields-skip-Inv-loop fields-skip-μ-loop (fields-skip-read2-requires t) (fields-skip-loop-holds t) (fields-skip-sub-field-len t) (fields-skip-part-field-len-start t) (λ c. search needs) (fields-skip-field-len-requires t) (fields-skip-add-at t) (λ c. search needs) (λ c. search needs) (fields-skip-loop-again t) (fields-skip-returns t))
-    (λ t. schema-len-lts.spec (schema-len-claims t) (schema-len-at t) schema-len.Post (schema-len-sub-content-skip t) (schema-len-part-content-skip-start t) (λ c. search needs) (schema-len-shared-slice-read-content-skip t) (schema-len-sub-content-skip-2 t) (schema-len-content-skip-requires t) (schema-len-add-result t) (schema-len-returns t))
+    (λ t. schema-len-lts.spec (schema-len-claims t) (schema-len-at t) schema-len.Post (schema-len-shared-slice-read-kind t) (λ c κs. search needs) (schema-len-returns t) (schema-len-sub-content-skip t) (schema-len-part-content-skip-start t) (λ c. search needs) (schema-len-sub-content-skip-2 t) (schema-len-content-skip-requires t) (schema-len-add-result t) (schema-len-returns-2 t))
     (λ t. union-skip-lts.spec (union-skip-claims t) (union-skip-at t) union-skip.Post (union-skip-variants-skip-requires t) (union-skip-sub-leads-skip t) (union-skip-part-leads-skip-start t) (λ c. search needs) (union-skip-leads-skip-requires t) (union-skip-add-e t) (union-skip-sub-positions-skip t) (union-skip-part-positions-skip-start t) (λ c. search needs) (union-skip-positions-skip-requires t) (union-skip-add-result t) (union-skip-returns t))
     λ t. variants-skip-lts.spec (variants-skip-claims t) (variants-skip-at t) variants-skip.Post variants-skip-Inv-loop variants-skip-μ-loop (variants-skip-read2-requires t) (variants-skip-loop-holds t) (variants-skip-sub-schema-len t) (variants-skip-part-schema-len-start t) (λ c. search needs) (variants-skip-schema-len-requires t) (variants-skip-add-at t) (λ c. search needs) (λ c. search needs) (variants-skip-loop-again t) (variants-skip-returns t)
