@@ -1,7 +1,7 @@
 // Ways into a part that is known to hold a value: past its Union, past an entry, and to the value under a name. Nothing is
 // checked again.
 ghost use mathlib.Core.Path.{_≡_};
-ghost use Prim.Native.Nat.{_-_, _≤_};
+ghost use Prim.Native.Nat.{_-_, _≤_, _<_};
 ghost use lib.ListN.{length, drop, replicate};
 ghost use Rattle.text.specs.Measured.{Reads};
 ghost use Rattle.frame.specs.ValueFrame.{readEntry, readValue};
@@ -62,19 +62,30 @@ fn later(before: usize, named: bool, at: usize) -> usize
     if named { at } else { before }
 }
 
+// How far a value reaches, where `left` counts it and the entries behind it. Behind the last one nothing is looked at.
+fn reach(v: &[u8], depth: usize, left: usize) -> usize
+    requires { ⌜ Reads (readValue depth (now v)) ⌝ }
+    ensures { λ r. ⌜ (r ≤ length (now (v .entry))) × (1 < left → Spans (readValue depth (now (v .entry))) (now (v .entry)) r) ⌝ }
+{
+    if left <= 1 {
+        return 0;
+    }
+    value::value_len(v, depth)
+}
+
 // The last value under a name in a Record or a Map, whose contents are alike: a count and as many entries.
 pub fn find_last(v: &[u8], name: &[u8], depth: usize) -> Found
     requires { ⌜ Reads (readValue depth (now v)) × Keyed (now v) ⌝ }
     ensures { λ r. ⌜ Located (entryUnder (now (name .entry)) (readValue depth (now (v .entry)))) (depth - 1) (now (v .entry)) r ⌝ }
 {
-    let mut left = number::read2(v, 1);
+    let mut left = number::read2(v, 1) as usize;
     let mut at: usize = 3;
     let mut last: usize = 0;
     while 0 < left {
         let t = text::content(&v[at..]);
         at += 2 + t.len();
         last = later(last, text::same(t, name), at);
-        at += value::value_len(&v[at..], depth - 1);
+        at += reach(&v[at..], depth - 1, left);
         left -= 1;
     }
     find_at(last)
@@ -97,7 +108,7 @@ pub fn mark(v: &[u8], depth: usize, t: &mut [u16; 2560]) -> bool
         }
         index::add(t, v, n, at);
         at += 2 + text::content(&v[at..]).len();
-        at += value::value_len(&v[at..], depth - 1);
+        at += reach(&v[at..], depth - 1, count - n);
         n += 1;
     }
     true

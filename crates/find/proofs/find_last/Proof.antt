@@ -14,7 +14,7 @@ use Rattle.find.proofs.later.Reads as later-reads
 use Rattle.number.proofs.read2.Reads as read2-reads
 use Rattle.text.proofs.content.Reads as content-reads
 use Rattle.text.proofs.same.Reads as same-reads
-use Rattle.value.proofs.value_len.Reads as value-len-reads
+use Rattle.find.proofs.reach.Reads as reach-reads
 
 -- `find::find_last` meets its contract. The loop's invariant: the value looked for is in the entries to come, or else it is the one
 -- found so far. The measure is the number of entries to come.
@@ -27,6 +27,9 @@ abbrev μ-loop : tie.MeasureT-loop
 
 read2-requires : tie.Need-read2-requires Inv-loop μ-loop
 read2-requires c κs = keyed-length _ _ (c .before .before .pre .0) (c .before .before .pre .1)
+
+cast-left : tie.Need-cast-left Inv-loop μ-loop
+cast-left c = search needs
 
 loop-holds : tie.Need-loop-holds Inv-loop μ-loop
 unfolding foundAt
@@ -56,24 +59,24 @@ same-requires c κs = search needs
 later-requires : tie.Need-later-requires Inv-loop μ-loop
 later-requires c κs = omega arith
 
-sub-value-len : tie.Need-sub-value-len Inv-loop μ-loop
-sub-value-len c = finding-inside _ _ _ _ _ _ (c .before .before .before .before .before .loop .inv) (c .before .before .before .before .before .before .before .before .before .pre .0) (c .before .before .before .before .loop-test .taken) _ (rw suffix at (c .before .before .content .ensures .0)) (rw suffix at (c .before .before .content .ensures .1 .0))
+sub-reach : tie.Need-sub-reach Inv-loop μ-loop
+sub-reach c = finding-inside _ _ _ _ _ _ (c .before .before .before .before .before .loop .inv) (c .before .before .before .before .before .before .before .before .before .pre .0) (c .before .before .before .before .loop-test .taken) _ (rw suffix at (c .before .before .content .ensures .0)) (rw suffix at (c .before .before .content .ensures .1 .0))
 
-part-value-len-start : tie.Need-part-value-len-start Inv-loop μ-loop
-part-value-len-start c = finding-inside _ _ _ _ _ _ (c .before .before .before .before .before .loop .inv) (c .before .before .before .before .before .before .before .before .before .pre .0) (c .before .before .before .before .loop-test .taken) _ (rw suffix at (c .before .before .content .ensures .0)) (rw suffix at (c .before .before .content .ensures .1 .0))
+part-reach-start : tie.Need-part-reach-start Inv-loop μ-loop
+part-reach-start c = finding-inside _ _ _ _ _ _ (c .before .before .before .before .before .loop .inv) (c .before .before .before .before .before .before .before .before .before .pre .0) (c .before .before .before .before .loop-test .taken) _ (rw suffix at (c .before .before .content .ensures .0)) (rw suffix at (c .before .before .content .ensures .1 .0))
 
-part-value-len-end : tie.Need-part-value-len-end Inv-loop μ-loop
-part-value-len-end c = search needs
+part-reach-end : tie.Need-part-reach-end Inv-loop μ-loop
+part-reach-end c = search needs
 
-sub-value-len-2 : tie.Need-sub-value-len-2 Inv-loop μ-loop
-sub-value-len-2 c = let h = value-there _ _ (c .before .before .before .before .before .before .before .before .before .before .pre .0) .0 in omega arith
+sub-reach-2 : tie.Need-sub-reach-2 Inv-loop μ-loop
+sub-reach-2 c = let h = value-there _ _ (c .before .before .before .before .before .before .before .before .before .before .pre .0) .0 in omega arith
 
-value-len-requires : tie.Need-value-len-requires Inv-loop μ-loop
-value-len-requires c κs = rw suffix (finding-value _ _ _ _ _ _ (c .before .before .before .before .before .before .loop .inv) (c .before .before .before .before .before .before .before .before .before .before .pre .0) (c .before .before .before .before .before .loop-test .taken) _ (rw suffix at (c .before .before .before .content .ensures .0)) (rw suffix at (c .before .before .before .content .ensures .1 .0)))
+reach-requires : tie.Need-reach-requires Inv-loop μ-loop
+reach-requires c κs = rw suffix (finding-value _ _ _ _ _ _ (c .before .before .before .before .before .before .loop .inv) (c .before .before .before .before .before .before .before .before .before .before .pre .0) (c .before .before .before .before .before .loop-test .taken) _ (rw suffix at (c .before .before .before .content .ensures .0)) (rw suffix at (c .before .before .before .content .ensures .1 .0)))
 
 add-at-3 : tie.Need-add-at-3 Inv-loop μ-loop
 add-at-3 c =
-    let w = finding-step _ _ _ _ _ _ (c .before .before .before .before .before .before .before .loop .inv) (c .before .before .before .before .before .before .before .before .before .before .before .pre .0) (c .before .before .before .before .before .before .loop-test .taken) _ (rw suffix at (c .before .before .before .before .content .ensures .0)) (rw suffix at (c .before .before .before .before .content .ensures .1 .0)) _ _ refl (rw suffix at (c .value-len .ensures)) in
+    let w = finding-step _ _ _ _ _ _ (c .before .before .before .before .before .before .before .loop .inv) (c .before .before .before .before .before .before .before .before .before .before .before .pre .0) (c .before .before .before .before .before .before .loop-test .taken) _ (rw suffix at (c .before .before .before .before .content .ensures .0)) (rw suffix at (c .before .before .before .before .content .ensures .1 .0)) _ _ refl (rw suffix at (c .reach .ensures .0)) (rw suffix at (c .reach .ensures .1)) in
     omega (arith, w .inside)
 
 sub-left : tie.Need-sub-left Inv-loop μ-loop
@@ -83,7 +86,7 @@ loop-less : tie.Need-loop-less Inv-loop μ-loop
 loop-less c = search needs
 
 loop-again : tie.Need-loop-again Inv-loop μ-loop
-loop-again c = rw (c .before .before .later .ensures) (finding-step _ _ _ _ _ _ (c .before .before .before .before .before .before .before .loop .inv) (c .before .before .before .before .before .before .before .before .before .before .before .pre .0) (c .before .before .before .before .before .before .loop-test .taken) _ (rw suffix at (c .before .before .before .before .content .ensures .0)) (rw suffix at (c .before .before .before .before .content .ensures .1 .0)) _ _ (c .before .before .before .same .ensures) (rw suffix at (c .value-len .ensures)))
+loop-again c = rw (c .before .before .later .ensures) (finding-step _ _ _ _ _ _ (c .before .before .before .before .before .before .before .loop .inv) (c .before .before .before .before .before .before .before .before .before .before .before .pre .0) (c .before .before .before .before .before .before .loop-test .taken) _ (rw suffix at (c .before .before .before .before .content .ensures .0)) (rw suffix at (c .before .before .before .before .content .ensures .1 .0)) _ _ (c .before .before .before .same .ensures) (rw suffix at (c .reach .ensures .0)) (rw suffix at (c .reach .ensures .1)))
 
 find-at-requires : tie.Need-find-at-requires Inv-loop μ-loop
 find-at-requires c κs = search needs
@@ -98,6 +101,7 @@ find-last-spec =
     Inv-loop
     μ-loop
     read2-requires
+    cast-left
     loop-holds
     sub-content
     part-content-start
@@ -107,11 +111,11 @@ find-last-spec =
     add-at-2
     same-requires
     later-requires
-    sub-value-len
-    part-value-len-start
-    part-value-len-end
-    sub-value-len-2
-    value-len-requires
+    sub-reach
+    part-reach-start
+    part-reach-end
+    sub-reach-2
+    reach-requires
     add-at-3
     sub-left
     loop-less

@@ -55,23 +55,26 @@ add-at c = search needs
 add-at-2 : tie.Need-add-at-2 Inv-loop μ-loop
 add-at-2 c = search needs
 
-sub-value-len : tie.Need-sub-value-len Inv-loop μ-loop
-sub-value-len c = marking-inside _ _ _ _ _ _ (c .before .before .before .before .before .before .loop .inv) (c .before .before .before .before .before .before .before .before .before .before .pre .0) (c .before .before .before .before .before .loop-test .taken) _ (rw suffix at (c .content .ensures .0)) (rw suffix at (c .content .ensures .1 .0))
+sub-reach : tie.Need-sub-reach Inv-loop μ-loop
+sub-reach c = marking-inside _ _ _ _ _ _ (c .before .before .before .before .before .before .loop .inv) (c .before .before .before .before .before .before .before .before .before .before .pre .0) (c .before .before .before .before .before .loop-test .taken) _ (rw suffix at (c .content .ensures .0)) (rw suffix at (c .content .ensures .1 .0))
 
-part-value-len-start : tie.Need-part-value-len-start Inv-loop μ-loop
-part-value-len-start c = marking-inside _ _ _ _ _ _ (c .before .before .before .before .before .before .loop .inv) (c .before .before .before .before .before .before .before .before .before .before .pre .0) (c .before .before .before .before .before .loop-test .taken) _ (rw suffix at (c .content .ensures .0)) (rw suffix at (c .content .ensures .1 .0))
+part-reach-start : tie.Need-part-reach-start Inv-loop μ-loop
+part-reach-start c = marking-inside _ _ _ _ _ _ (c .before .before .before .before .before .before .loop .inv) (c .before .before .before .before .before .before .before .before .before .before .pre .0) (c .before .before .before .before .before .loop-test .taken) _ (rw suffix at (c .content .ensures .0)) (rw suffix at (c .content .ensures .1 .0))
 
-part-value-len-end : tie.Need-part-value-len-end Inv-loop μ-loop
-part-value-len-end c = search needs
+part-reach-end : tie.Need-part-reach-end Inv-loop μ-loop
+part-reach-end c = search needs
 
-sub-value-len-2 : tie.Need-sub-value-len-2 Inv-loop μ-loop
-sub-value-len-2 c = let h = value-there _ _ (c .before .before .before .before .before .before .before .before .before .before .before .pre .0) .0 in omega arith
+sub-reach-2 : tie.Need-sub-reach-2 Inv-loop μ-loop
+sub-reach-2 c = let h = value-there _ _ (c .before .before .before .before .before .before .before .before .before .before .before .pre .0) .0 in omega arith
 
-value-len-requires : tie.Need-value-len-requires Inv-loop μ-loop
-value-len-requires c κs = rw suffix (marking-value _ _ _ _ _ _ (c .before .before .before .before .before .before .before .loop .inv) (c .before .before .before .before .before .before .before .before .before .before .before .pre .0) (c .before .before .before .before .before .before .loop-test .taken) _ (rw suffix at (c .before .content .ensures .0)) (rw suffix at (c .before .content .ensures .1 .0)))
+sub-reach-3 : tie.Need-sub-reach-3 Inv-loop μ-loop
+sub-reach-3 c = omega arith
+
+reach-requires : tie.Need-reach-requires Inv-loop μ-loop
+reach-requires c κs = rw suffix (marking-value _ _ _ _ _ _ (c .before .before .before .before .before .before .before .loop .inv) (c .before .before .before .before .before .before .before .before .before .before .before .pre .0) (c .before .before .before .before .before .before .loop-test .taken) _ (rw suffix at (c .before .content .ensures .0)) (rw suffix at (c .before .content .ensures .1 .0)))
 
 add-at-3 : tie.Need-add-at-3 Inv-loop μ-loop
-add-at-3 c = let h = marking-within _ _ _ _ _ _ (c .before .before .before .before .before .before .before .before .loop .inv) (c .before .before .before .before .before .before .before .before .before .before .before .before .pre .0) (c .before .before .before .before .before .before .before .loop-test .taken) _ (rw suffix at (c .before .before .content .ensures .0)) (rw suffix at (c .before .before .content .ensures .1 .0)) _ (rw suffix at (c .value-len .ensures)) in omega arith
+add-at-3 c = let h = marking-within _ _ _ _ _ _ (c .before .before .before .before .before .before .before .before .loop .inv) (c .before .before .before .before .before .before .before .before .before .before .before .before .pre .0) (c .before .before .before .before .before .before .before .loop-test .taken) _ (rw suffix at (c .before .before .content .ensures .0)) (rw suffix at (c .before .before .content .ensures .1 .0)) _ (rw suffix at (c .reach .ensures .0)) in omega arith
 
 add-n : tie.Need-add-n Inv-loop μ-loop
 add-n c = search needs
@@ -80,7 +83,7 @@ loop-less : tie.Need-loop-less Inv-loop μ-loop
 loop-less c = omega arith
 
 loop-again : tie.Need-loop-again Inv-loop μ-loop
-loop-again c = marking-step _ _ _ _ _ _ (c .before .before .before .before .before .before .before .before .loop .inv) (c .before .before .before .before .before .before .before .before .before .before .before .before .pre .0) (c .before .before .before .before .before .before .before .loop-test .taken) _ (rw suffix at (c .before .before .content .ensures .0)) (rw suffix at (c .before .before .content .ensures .1 .0)) _ _ (c .before .before .before .before .add .ensures) (rw suffix at (c .value-len .ensures))
+loop-again c = marking-step _ _ _ _ _ _ (c .before .before .before .before .before .before .before .before .loop .inv) (c .before .before .before .before .before .before .before .before .before .before .before .before .pre .0) (c .before .before .before .before .before .before .before .loop-test .taken) _ (rw suffix at (c .before .before .content .ensures .0)) (rw suffix at (c .before .before .content .ensures .1 .0)) _ _ (c .before .before .before .before .add .ensures) (rw suffix at (c .reach .ensures .0)) (rw suffix at (c .reach .ensures .1))
 
 returns-3 : tie.Need-returns-3 Inv-loop μ-loop
 returns-3 c = (marking-end _ _ _ _ _ _ (c .before .loop .inv) (omega arith), c .before .loop .inv .indexed .size)
@@ -103,11 +106,12 @@ mark-spec =
     content-requires
     add-at
     add-at-2
-    sub-value-len
-    part-value-len-start
-    part-value-len-end
-    sub-value-len-2
-    value-len-requires
+    sub-reach
+    part-reach-start
+    part-reach-end
+    sub-reach-2
+    sub-reach-3
+    reach-requires
     add-at-3
     add-n
     loop-less
