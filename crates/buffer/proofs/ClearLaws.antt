@@ -52,9 +52,9 @@ pub all-zero : (b : List ℕ) → ((k : ℕ) → k < length b → getD b k 0 ≡
 all-zero [] h = refl
 all-zero (x ∷ b) h = ap (λ y. y ∷ b) (h 0 (omega arith)) ∙ ap (λ y. 0 ∷ y) (all-zero b (λ k l. h (suc k) (omega (arith, l))))
 
--- the byte j from each of four places on is zero
+-- the byte j from each of three places on is zero
 abbrev Zero : List ℕ → ℕ → ℕ → Type 0
-Zero b part j = (getD b j 0 ≡ 0) × ((getD b (j + part) 0 ≡ 0) × ((getD b (j + 2 * part) 0 ≡ 0) × (getD b (j + 3 * part) 0 ≡ 0)))
+Zero b part j = (getD b j 0 ≡ 0) × ((getD b (j + part) 0 ≡ 0) × (getD b (j + 2 * part) 0 ≡ 0))
 
 -- where no bit was met, the first i of them are
 unfoldable pub Unmet : List ℕ → ℕ → ℕ → ℕ → Type 0
@@ -65,14 +65,13 @@ unfolding Unmet
 unmet-none b part any e j l = absurd (omega (arith, l))
 
 pub unmet-next : (b : List ℕ) (part any i : ℕ) → Unmet b part any i
-    → Unmet b part (bitOr (bitOr (bitOr (bitOr any (getD b i 0)) (getD b (i + part) 0)) (getD b (i + 2 * part) 0)) (getD b (i + 3 * part) 0)) (i + 1)
+    → Unmet b part (bitOr (bitOr (bitOr any (getD b i 0)) (getD b (i + part) 0)) (getD b (i + 2 * part) 0)) (i + 1)
 unfolding Unmet
 unmet-next b part any i w e j l =
-    let p3 = or-zero _ _ e in
-    let p2 = or-zero _ _ (p3 .0) in
+    let p2 = or-zero _ _ e in
     let p1 = or-zero _ _ (p2 .0) in
     let p0 = or-zero _ _ (p1 .0) in
-    go (p0 .0) (p0 .1, (p1 .1, (p2 .1, p3 .1))) (leb i j) refl
+    go (p0 .0) (p0 .1, (p1 .1, p2 .1)) (leb i j) refl
   where
     go : any ≡ 0 → Zero b part i → (t : Bool) → leb i j ≡ t → Zero b part j
     go a z true q =
@@ -80,20 +79,16 @@ unmet-next b part any i w e j l =
         rw (← s) z
     go a z false q = w a j (leb-false i j q)
 
--- four places that cover a slice
-pub unmet-all : (b : List ℕ) (part most any i : ℕ) → part * 4 ≤ length b → most ≡ length b - 3 * part → most ≤ i → Unmet b part any i → any ≡ 0 → b ≡ replicate (length b) 0
+-- three places that cover a slice
+pub unmet-all : (b : List ℕ) (part most any i : ℕ) → part * 3 ≤ length b → most ≡ length b - 2 * part → most ≤ i → Unmet b part any i → any ≡ 0 → b ≡ replicate (length b) 0
 unfolding Unmet
 unmet-all b part most any i h m l w e = all-zero b each
   where
     at : (j k : ℕ) → j ≡ k → getD b j 0 ≡ 0 → getD b k 0 ≡ 0
     at j k q z = ap (λ n. getD b n 0) (sym q) ∙ z
 
-    third : (k : ℕ) → k < length b → 2 * part ≤ k → (t : Bool) → leb (3 * part) k ≡ t → getD b k 0 ≡ 0
-    third k g p true q = let r = leb-true (3 * part) k q in at (k - 3 * part + 3 * part) k (omega (arith, r)) (w e (k - 3 * part) (omega (arith, r, m, l, g)) .1 .1 .1)
-    third k g p false q = let r = leb-false (3 * part) k q in at (k - 2 * part + 2 * part) k (omega (arith, p)) (w e (k - 2 * part) (omega (arith, r, m, l, g, h, p)) .1 .1 .0)
-
     second : (k : ℕ) → k < length b → part ≤ k → (t : Bool) → leb (2 * part) k ≡ t → getD b k 0 ≡ 0
-    second k g p true q = third k g (leb-true (2 * part) k q) (leb (3 * part) k) refl
+    second k g p true q = let r = leb-true (2 * part) k q in at (k - 2 * part + 2 * part) k (omega (arith, r)) (w e (k - 2 * part) (omega (arith, r, m, l, g)) .1 .1)
     second k g p false q = let r = leb-false (2 * part) k q in at (k - part + part) k (omega (arith, p)) (w e (k - part) (omega (arith, r, m, l, g, h, p)) .1 .0)
 
     first : (k : ℕ) → k < length b → (t : Bool) → leb part k ≡ t → getD b k 0 ≡ 0

@@ -14,16 +14,16 @@ fn fill(b: &mut [u8])
     }
 }
 
-// The bits that any byte has: none where all bytes are zero. Four quarters are read side by side, the last of which may be longer.
+// The bits that any byte has: none where all bytes are zero. Three thirds are read side by side, the last of which may be longer.
 fn bits(b: &[u8]) -> u8
     ensures { λ r. ⌜ (r ≡ 0 → now (b .entry) ≡ replicate (length (now (b .entry))) 0) ⌝ }
 {
-    let part = b.len() / 4;
-    let most = b.len() - 3 * part;
+    let part = b.len() / 3;
+    let most = b.len() - 2 * part;
     let mut any: u8 = 0;
     let mut i: usize = 0;
     while i < most {
-        any = any | b[i] | b[i + part] | b[i + 2 * part] | b[i + 3 * part];
+        any = any | b[i] | b[i + part] | b[i + 2 * part];
         i += 1;
     }
     any

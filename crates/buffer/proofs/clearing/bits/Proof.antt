@@ -42,23 +42,14 @@ add-any-2 c = omega arith
 shared-slice-read-any-3 : tie.Need-shared-slice-read-any-3 Inv-loop μ-loop
 shared-slice-read-any-3 c = omega arith
 
-mul-any-2 : tie.Need-mul-any-2 Inv-loop μ-loop
-mul-any-2 c = omega arith
-
-add-any-3 : tie.Need-add-any-3 Inv-loop μ-loop
-add-any-3 c = omega arith
-
-shared-slice-read-any-4 : tie.Need-shared-slice-read-any-4 Inv-loop μ-loop
-shared-slice-read-any-4 c = omega arith
-
 add-i : tie.Need-add-i Inv-loop μ-loop
 add-i c = omega arith
 
 loop-less : tie.Need-loop-less Inv-loop μ-loop
-loop-less c = omega (arith, c .before .before .before .before .before .loop .inv .0)
+loop-less c = omega (arith, c .before .before .before .before .loop .inv .0)
 
 loop-again : tie.Need-loop-again Inv-loop μ-loop
-loop-again c = (omega arith, unmet-next _ _ _ _ (c .before .before .before .before .before .loop .inv .1))
+loop-again c = (omega arith, unmet-next _ _ _ _ (c .before .before .before .before .loop .inv .1))
 
 returns : tie.Need-returns Inv-loop μ-loop
 returns c = unmet-all (c .before .before .args .b .now) _ _ _ _ (omega arith) refl (omega arith) (c .before .loop .inv .1)
@@ -78,9 +69,6 @@ bits-spec =
     mul-any
     add-any-2
     shared-slice-read-any-3
-    mul-any-2
-    add-any-3
-    shared-slice-read-any-4
     add-i
     loop-less
     loop-again
