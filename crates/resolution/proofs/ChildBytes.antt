@@ -207,6 +207,10 @@ module _ (ds : ℕ) (s : List ℕ) (r : Ready ds s) (es : getD s 0 0 ≡ 11) whe
 abbrev pub FineFields : List Field → Type 0
 FineFields fs = T (fieldsSound (fieldsOf fs)) × T (fieldDefaultsShort (fieldsOf fs))
 
+pub fine-none : FineFields []
+unfolding schemaSound defaultsShort fieldsOf
+fine-none = (tt, tt)
+
 pub fine-first : (f : Field) (fs : List Field) → FineFields (f ∷ fs) → T (schemaSound (f .2)) × (T (defaultsShort (f .2)) × T (shortDefault (f .2) (f .1)))
 unfolding schemaSound defaultsShort fieldsOf
 fine-first f fs h =

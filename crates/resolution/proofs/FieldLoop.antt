@@ -1,9 +1,11 @@
 -- The loop over the fields of a record schema: those to come are sound, and their defaults short.
-use Prim.Native.Nat.{ℕ, _+_, _-_, _<_, min}
-use mathlib.Core.Path.{_≡_, refl, ap, _∙_}
+use Prim.Native.Nat.{ℕ, _+_, _-_, _≤_, _<_, min}
+use mathlib.Core.Path.{_≡_, refl, sym, ap, _∙_, subst}
+use mathlib.Core.Bool.{Bool, true, false}
+use native.Mathlib.Omega.{arith}
 use mathlib.Core.List.{List, _∷_, _++_}
 use mathlib.Core.Option.{some}
-use lib.Dec.{T}
+use lib.Dec.{T, leb}
 use lib.ListN.{length, getD, take, drop}
 use Rattle.number.specs.Number.{allBytes, numberAt}
 use Rattle.text.specs.Read.{Read}
@@ -13,15 +15,16 @@ use Rattle.frame.specs.Readers.{readMany}
 use Rattle.frame.specs.Checks.{Spans}
 use Rattle.frame.specs.ValueFrame.{readValue}
 use Rattle.frame.specs.SchemaFrame.{readField, readSchema}
-use Rattle.frame.proofs.Reading.{bind-some}
-use Rattle.frame.proofs.Counting.{Split, many-split}
+use borrow.Author.Tests.{leb-true, leb-false}
+use Rattle.frame.proofs.Reading.{bind-some, read-what}
+use Rattle.frame.proofs.Counting.{Split, many-split, many-zero}
 use Rattle.types.specs.Contract.{onRead, onBoth}
 use Rattle.buffer.specs.Built.{Built, Wrote}
 use Rattle.buffer.specs.declared.Answer.the-variants.{Accepted}
 use Rattle.find.specs.Find.{Keyed}
 use Rattle.resolution.specs.Contract.{Ready, ReadyField, peeledBytes, fieldBytes}
-use Rattle.resolution.proofs.Pieces.{onSecond, Loop, going-start, loop-step, loop-tail}
-use Rattle.resolution.proofs.ChildBytes.{FineFields, fine-first, fine-rest, fields-fine, fields-long, fields-others, fields-start}
+use Rattle.resolution.proofs.Pieces.{onSecond, Loop, going-start, loop-reach, loop-tail}
+use Rattle.resolution.proofs.ChildBytes.{FineFields, fine-none, fine-first, fine-rest, fields-fine, fields-long, fields-others, fields-start}
 
 abbrev FieldReads : ℕ → List ℕ → ℕ → ℕ → Read (List Field)
 FieldReads ds s left from = readMany (readField (readSchema (ds - 1))) left (drop from s)
@@ -65,10 +68,15 @@ module _ (s v : List ℕ) (ds dv len : ℕ) (out : List ℕ) (left at from : ℕ
         start = f .1 .1;
       }
 
-  pub fields-step : (m : ℕ) → Spans (readField (readSchema (ds - 1)) (drop from s)) (drop from s) m → (k a r : ℕ) (z : List ℕ) → k ≡ min at (length out) → length z ≡ length (take (length out - k) (drop k out))
-      → Wrote (onRead (onSecond fieldBytes (readValue dv v)) (readField (readSchema (ds - 1)) (drop from s))) z (Accepted a) → r ≡ min (at + a) 65536
+  pub fields-step : (m : ℕ) → m ≤ length (drop from s) → (1 < left → Spans (readField (readSchema (ds - 1)) (drop from s)) (drop from s) m) → (k a r : ℕ) (z : List ℕ) → k ≡ min at (length out)
+      → length z ≡ length (take (length out - k) (drop k out)) → Wrote (onRead (onSecond fieldBytes (readValue dv v)) (readField (readSchema (ds - 1)) (drop from s))) z (Accepted a) → r ≡ min (at + a) 65536
       → FieldLoop s v ds dv len (take k out ++ (z ++ drop (length out - k) (drop k out))) (left - 1) r (from + m)
-  fields-step m u k a r z hk l hw hr = record {
-    loop = loop-step _ _ _ s len out left at from (w .loop) h m u k a r z hk l hw hr;
-    fine = λ xs t e. fine-rest (next .item) xs (joined xs t (ap (readMany (readField (readSchema (ds - 1))) (left - 1)) (loop-tail _ _ _ s len out left at from (w .loop) h m u) ∙ e));
+  fields-step m g u k a r z hk l hw hr = record {
+    loop = loop-reach _ _ _ s len out left at from (w .loop) h m g u k a r z hk l hw hr;
+    fine = λ xs t e. go xs t e (leb left 1) refl;
   }
+    where
+      go : (xs : List Field) (t : List ℕ) → FieldReads ds s (left - 1) (from + m) ≡ some (xs, t) → (b : Bool) → leb left 1 ≡ b → FineFields xs
+      go xs t e true q = subst FineFields (sym (read-what (sym e ∙ many-zero _ (left - 1) (drop (from + m) s) (omega (arith, leb-true left 1 q))))) fine-none
+      go xs t e false q =
+          fine-rest (next .item) xs (joined xs t (ap (readMany (readField (readSchema (ds - 1))) (left - 1)) (loop-tail _ _ _ s len out left at from (w .loop) h m (u (leb-false left 1 q))) ∙ e))

@@ -3,9 +3,12 @@ use Prim.Native.Nat.{ℕ, _+_, _-_, _≤_, _<_, min}
 use mathlib.Core.Path.{_≡_, refl, sym, ap, _∙_, subst}
 use mathlib.Core.List.{List, [], _∷_, _++_, append-assoc, append-nil}
 use mathlib.Core.Option.{none, some}
+use mathlib.Core.Bool.{Bool, true, false}
 use native.Mathlib.Omega.{arith}
+use lib.Dec.{leb}
 use lib.ListN.{length, take, drop, length-drop}
 use lib.Seq.{drop-drop}
+use borrow.Author.Tests.{leb-true, leb-false}
 use Rattle.base.specs.Base.{Result, ok, no, after}
 use Rattle.text.specs.Read.{Read, _>>=_}
 use Rattle.text.specs.Measured.{Reads}
@@ -177,3 +180,31 @@ module _ {A : Type 0} (p : List ℕ → Read A) (whole : Result (List ℕ)) (f :
         same = length-tail-back k out z (omega arith) (lent k out z l) ∙ w .same;
         going = subst (λ t. Going whole (take k out ++ z) r (onRead (eachBytes f) (readMany p (left - 1) t))) e (going-step _ _ _ _ out z at a k r (w .going) (each-split p f left (drop from s) n) hk (lent k out z l) hw hr);
       })
+
+  pub loop-within : (m : ℕ) → m ≤ length (drop from s) → from + m ≤ length s
+  loop-within m g = omega (arith, g, length-drop from s, w .inside)
+
+  -- the last, behind which nothing is looked at
+  loop-last : 0 < left → left ≤ 1 → (m : ℕ) → m ≤ length (drop from s) → (k a r : ℕ) (z : List ℕ) → k ≡ min at (length out) → length z ≡ length (take (length out - k) (drop k out))
+      → Wrote (onRead f (p (drop from s))) z (Accepted a) → r ≡ min (at + a) 65536
+      → Loop p whole f s len (take k out ++ (z ++ drop (length out - k) (drop k out))) (left - 1) r (from + m)
+  loop-last h j m g k a r z hk l hw hr =
+      let n = many-split p left (drop from s) (w .others) h in
+      let o : left - 1 ≤ 0 = omega (arith, j) in
+      let e : onRead (eachBytes f) (readMany p (left - 1) (n .tail)) ≡ onRead (eachBytes f) (readMany p (left - 1) (drop (from + m) s)) = each-none p f (left - 1) (n .tail) o ∙ sym (each-none p f (left - 1) (drop (from + m) s) o) in
+      rw (tail-back k out z) (record {
+        inside = loop-within m g;
+        others = reads-some [] (drop (from + m) s) (many-zero p (left - 1) (drop (from + m) s) o);
+        same = length-tail-back k out z (omega arith) (lent k out z l) ∙ w .same;
+        going = subst (Going whole (take k out ++ z) r) e (going-step _ _ _ _ out z at a k r (w .going) (each-split p f left (drop from s) n) hk (lent k out z l) hw hr);
+      })
+
+  -- one more, of m bytes where others follow
+  pub loop-reach : 0 < left → (m : ℕ) → m ≤ length (drop from s) → (1 < left → Spans (p (drop from s)) (drop from s) m) → (k a r : ℕ) (z : List ℕ) → k ≡ min at (length out)
+      → length z ≡ length (take (length out - k) (drop k out)) → Wrote (onRead f (p (drop from s))) z (Accepted a) → r ≡ min (at + a) 65536
+      → Loop p whole f s len (take k out ++ (z ++ drop (length out - k) (drop k out))) (left - 1) r (from + m)
+  loop-reach h m g v k a r z hk l hw hr = go (leb left 1) refl
+    where
+      go : (b : Bool) → leb left 1 ≡ b → Loop p whole f s len (take k out ++ (z ++ drop (length out - k) (drop k out))) (left - 1) r (from + m)
+      go true q = loop-last h (leb-true left 1 q) m g k a r z hk l hw hr
+      go false q = loop-step h m (v (leb-false left 1 q)) k a r z hk l hw hr

@@ -1,6 +1,7 @@
 // Resolution of a value against a schema (src/types.rs, src/schema/union.rs) over parts of frames.
 pub mod defaults;
 pub mod leaf;
+mod reach;
 pub mod resolve;
 pub mod union;
 

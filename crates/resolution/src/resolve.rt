@@ -5,6 +5,7 @@ use crate::Positions;
 use crate::Tried;
 use crate::Wanted;
 use crate::leaf::resolve_leaf;
+use crate::reach::field_reach;
 use crate::union::base_kind;
 use crate::union::is_at;
 use crate::union::is_tried;
@@ -27,7 +28,6 @@ use find::entry_len;
 use find::find_in;
 use find::mark;
 use find::peel;
-use schema::field_len;
 use schema::schema_len;
 use value::value_len;
 ghost use mathlib.Core.Path.{_≡_};
@@ -187,7 +187,7 @@ fn fields(
                 return Answer::Refused(e);
             }
         }
-        from += field_len(&s[from..], ds - 1);
+        from += field_reach(&s[from..], ds - 1, left);
         left -= 1;
     }
     Answer::Accepted(at)

@@ -19,7 +19,7 @@ use Rattle.buffer.proofs.BuiltLaws.{tail-is, built-small}
 use Rattle.types.specs.Contract.{onBoth}
 use Rattle.resolution.specs.Contract.{nodeBytes, peeledBytes, entryBytes}
 use Rattle.resolution.proofs.ReadParts.{value-array, value-map, ready-reads}
-use Rattle.resolution.proofs.Pieces.{wrote-eq, accepted-small, both-first, both-second, onFirst, Loop, going-start, loop-first, loop-small, loop-end, loop-no, loop-add, loop-step, wrote-last, wrote-last-no}
+use Rattle.resolution.proofs.Pieces.{wrote-eq, accepted-small, both-first, both-second, onFirst, Loop, going-start, loop-first, loop-small, loop-end, loop-no, loop-add, loop-within, loop-step, wrote-last, wrote-last-no}
 use Rattle.resolution.proofs.NodeBytes.{both-peel, peel-reads, ready-array, ready-map, array-no, array-others, array-start}
 use Rattle.resolution.proofs.ChildBytes.{map-no, map-others, map-start, fields-long, record-no}
 use Rattle.find.specs.Find.{Keyed}
@@ -114,7 +114,7 @@ use Rattle.resolution.proofs.union.table_position.Reads as table-positi
 use Rattle.resolution.proofs.union.unnamed_kind.Reads as unnamed-kind-reads
 use Rattle.resolution.proofs.union.variant_at.Reads as variant-at-reads
 use Rattle.resolution.proofs.union.was_named.Reads as was-named-reads
-use Rattle.schema.proofs.field_len.Reads as field-len-reads
+use Rattle.resolution.proofs.reach.field_reach.Reads as field-reach-reads
 use Rattle.schema.proofs.schema_len.Reads as schema-len-reads
 use Rattle.text.proofs.content.Reads as content-reads
 use Rattle.value.proofs.value_len.Reads as value-len-reads
@@ -488,91 +488,91 @@ fields-Inv-loop s v out₀ ds dv names marked left₀ at₀ from₀ out left at 
 abbrev fields-μ-loop : fields-lts.MeasureT-loop
 fields-μ-loop s v out₀ ds dv names marked left₀ at₀ from₀ out left at from = left
 
-fields-read2-requires : (t : ℕ) → fields-lts.Need-read2-requires (read2-reads.Asked, read2-reads.Learnt, put-reads.Asked, put-reads.Learnt, room-reads.Asked, room-reads.Learnt, one-field-below t, one-field.Post, joined-reads.Asked, joined-reads.Learnt, field-len-reads.Asked, field-len-reads.Learnt) (fields-at t) fields.Post fields-Inv-loop fields-μ-loop
+fields-read2-requires : (t : ℕ) → fields-lts.Need-read2-requires (read2-reads.Asked, read2-reads.Learnt, put-reads.Asked, put-reads.Learnt, room-reads.Asked, room-reads.Learnt, one-field-below t, one-field.Post, joined-reads.Asked, joined-reads.Learnt, field-reach-reads.Asked, field-reach-reads.Learnt) (fields-at t) fields.Post fields-Inv-loop fields-μ-loop
 fields-read2-requires t c κs = fields-long _ _ (c .before .before .before .before .pre .1 .0) (c .before .before .before .before .pre .1 .2)
 
-fields-slice-aggregate-put : (t : ℕ) → fields-lts.Need-slice-aggregate-put (read2-reads.Asked, read2-reads.Learnt, put-reads.Asked, put-reads.Learnt, room-reads.Asked, room-reads.Learnt, one-field-below t, one-field.Post, joined-reads.Asked, joined-reads.Learnt, field-len-reads.Asked, field-len-reads.Learnt) (fields-at t) fields.Post fields-Inv-loop fields-μ-loop
+fields-slice-aggregate-put : (t : ℕ) → fields-lts.Need-slice-aggregate-put (read2-reads.Asked, read2-reads.Learnt, put-reads.Asked, put-reads.Learnt, room-reads.Asked, room-reads.Learnt, one-field-below t, one-field.Post, joined-reads.Asked, joined-reads.Learnt, field-reach-reads.Asked, field-reach-reads.Learnt) (fields-at t) fields.Post fields-Inv-loop fields-μ-loop
 fields-slice-aggregate-put t c = sym (length-take-le 3 (c .before .before .before .before .before .before .before .args .s .now) (fields-long _ _ (c .before .before .before .before .before .before .before .pre .1 .0) (c .before .before .before .before .before .before .before .pre .1 .2)))
 
-fields-put-requires : (t : ℕ) → fields-lts.Need-put-requires (read2-reads.Asked, read2-reads.Learnt, put-reads.Asked, put-reads.Learnt, room-reads.Asked, room-reads.Learnt, one-field-below t, one-field.Post, joined-reads.Asked, joined-reads.Learnt, field-len-reads.Asked, field-len-reads.Learnt) (fields-at t) fields.Post fields-Inv-loop fields-μ-loop
+fields-put-requires : (t : ℕ) → fields-lts.Need-put-requires (read2-reads.Asked, read2-reads.Learnt, put-reads.Asked, put-reads.Learnt, room-reads.Asked, room-reads.Learnt, one-field-below t, one-field.Post, joined-reads.Asked, joined-reads.Learnt, field-reach-reads.Asked, field-reach-reads.Learnt) (fields-at t) fields.Post fields-Inv-loop fields-μ-loop
 fields-put-requires t c κs = search needs
 
-fields-loop-holds : (t : ℕ) → fields-lts.Need-loop-holds (read2-reads.Asked, read2-reads.Learnt, put-reads.Asked, put-reads.Learnt, room-reads.Asked, room-reads.Learnt, one-field-below t, one-field.Post, joined-reads.Asked, joined-reads.Learnt, field-len-reads.Asked, field-len-reads.Learnt) (fields-at t) fields.Post fields-Inv-loop fields-μ-loop
+fields-loop-holds : (t : ℕ) → fields-lts.Need-loop-holds (read2-reads.Asked, read2-reads.Learnt, put-reads.Asked, put-reads.Learnt, room-reads.Asked, room-reads.Learnt, one-field-below t, one-field.Post, joined-reads.Asked, joined-reads.Learnt, field-reach-reads.Asked, field-reach-reads.Learnt) (fields-at t) fields.Post fields-Inv-loop fields-μ-loop
 fields-loop-holds t c = fields-begin _ _ _ _ _ _ _ (c .before .before .before .before .before .before .before .before .before .before .pre .1 .0) (c .before .before .before .before .before .before .before .before .before .before .pre .1 .1) (c .before .before .before .before .before .before .before .before .before .before .pre .1 .2) (getD-allBytes (c .before .before .before .before .before .before .before .before .before .before .args .s .now) (λ i. omega (arith, c .before .before .before .before .before .before .before .before .before .shared-slice-known .given i))) (getD-allBytes (c .before .before .before .before .before .before .before .before .before .before .args .v .now) (λ i. omega (arith, c .before .before .before .before .before .before .before .before .shared-slice-known2 .given i))) (c .before .before .before .before .before .before .before .before .before .before .pre .1 .3) (c .before .before .before .before .before .read2 .ensures) (c .before .before .put .ensures)
 
-fields-room-requires : (t : ℕ) → fields-lts.Need-room-requires (read2-reads.Asked, read2-reads.Learnt, put-reads.Asked, put-reads.Learnt, room-reads.Asked, room-reads.Learnt, one-field-below t, one-field.Post, joined-reads.Asked, joined-reads.Learnt, field-len-reads.Asked, field-len-reads.Learnt) (fields-at t) fields.Post fields-Inv-loop fields-μ-loop
+fields-room-requires : (t : ℕ) → fields-lts.Need-room-requires (read2-reads.Asked, read2-reads.Learnt, put-reads.Asked, put-reads.Learnt, room-reads.Asked, room-reads.Learnt, one-field-below t, one-field.Post, joined-reads.Asked, joined-reads.Learnt, field-reach-reads.Asked, field-reach-reads.Learnt) (fields-at t) fields.Post fields-Inv-loop fields-μ-loop
 fields-room-requires t c κs = search needs
 
-fields-sub-one-field : (t : ℕ) → fields-lts.Need-sub-one-field (read2-reads.Asked, read2-reads.Learnt, put-reads.Asked, put-reads.Learnt, room-reads.Asked, room-reads.Learnt, one-field-below t, one-field.Post, joined-reads.Asked, joined-reads.Learnt, field-len-reads.Asked, field-len-reads.Learnt) (fields-at t) fields.Post fields-Inv-loop fields-μ-loop
+fields-sub-one-field : (t : ℕ) → fields-lts.Need-sub-one-field (read2-reads.Asked, read2-reads.Learnt, put-reads.Asked, put-reads.Learnt, room-reads.Asked, room-reads.Learnt, one-field-below t, one-field.Post, joined-reads.Asked, joined-reads.Learnt, field-reach-reads.Asked, field-reach-reads.Learnt) (fields-at t) fields.Post fields-Inv-loop fields-μ-loop
 fields-sub-one-field t c = c .before .before .loop .inv .loop .inside
 
-fields-part-one-field-start : (t : ℕ) → fields-lts.Need-part-one-field-start (read2-reads.Asked, read2-reads.Learnt, put-reads.Asked, put-reads.Learnt, room-reads.Asked, room-reads.Learnt, one-field-below t, one-field.Post, joined-reads.Asked, joined-reads.Learnt, field-len-reads.Asked, field-len-reads.Learnt) (fields-at t) fields.Post fields-Inv-loop fields-μ-loop
+fields-part-one-field-start : (t : ℕ) → fields-lts.Need-part-one-field-start (read2-reads.Asked, read2-reads.Learnt, put-reads.Asked, put-reads.Learnt, room-reads.Asked, room-reads.Learnt, one-field-below t, one-field.Post, joined-reads.Asked, joined-reads.Learnt, field-reach-reads.Asked, field-reach-reads.Learnt) (fields-at t) fields.Post fields-Inv-loop fields-μ-loop
 fields-part-one-field-start t c = c .before .before .loop .inv .loop .inside
 
-fields-part-one-field-end : (t : ℕ) → fields-lts.Need-part-one-field-end (read2-reads.Asked, read2-reads.Learnt, put-reads.Asked, put-reads.Learnt, room-reads.Asked, room-reads.Learnt, one-field-below t, one-field.Post, joined-reads.Asked, joined-reads.Learnt, field-len-reads.Asked, field-len-reads.Learnt) (fields-at t) fields.Post fields-Inv-loop fields-μ-loop
+fields-part-one-field-end : (t : ℕ) → fields-lts.Need-part-one-field-end (read2-reads.Asked, read2-reads.Learnt, put-reads.Asked, put-reads.Learnt, room-reads.Asked, room-reads.Learnt, one-field-below t, one-field.Post, joined-reads.Asked, joined-reads.Learnt, field-reach-reads.Asked, field-reach-reads.Learnt) (fields-at t) fields.Post fields-Inv-loop fields-μ-loop
 fields-part-one-field-end t c = search needs
 
-fields-sub-one-field-2 : (t : ℕ) → fields-lts.Need-sub-one-field-2 (read2-reads.Asked, read2-reads.Learnt, put-reads.Asked, put-reads.Learnt, room-reads.Asked, room-reads.Learnt, one-field-below t, one-field.Post, joined-reads.Asked, joined-reads.Learnt, field-len-reads.Asked, field-len-reads.Learnt) (fields-at t) fields.Post fields-Inv-loop fields-μ-loop
+fields-sub-one-field-2 : (t : ℕ) → fields-lts.Need-sub-one-field-2 (read2-reads.Asked, read2-reads.Learnt, put-reads.Asked, put-reads.Learnt, room-reads.Asked, room-reads.Learnt, one-field-below t, one-field.Post, joined-reads.Asked, joined-reads.Learnt, field-reach-reads.Asked, field-reach-reads.Learnt) (fields-at t) fields.Post fields-Inv-loop fields-μ-loop
 fields-sub-one-field-2 t c = search needs
 
-fields-part-one-field-start-2 : (t : ℕ) → fields-lts.Need-part-one-field-start-2 (read2-reads.Asked, read2-reads.Learnt, put-reads.Asked, put-reads.Learnt, room-reads.Asked, room-reads.Learnt, one-field-below t, one-field.Post, joined-reads.Asked, joined-reads.Learnt, field-len-reads.Asked, field-len-reads.Learnt) (fields-at t) fields.Post fields-Inv-loop fields-μ-loop
+fields-part-one-field-start-2 : (t : ℕ) → fields-lts.Need-part-one-field-start-2 (read2-reads.Asked, read2-reads.Learnt, put-reads.Asked, put-reads.Learnt, room-reads.Asked, room-reads.Learnt, one-field-below t, one-field.Post, joined-reads.Asked, joined-reads.Learnt, field-reach-reads.Asked, field-reach-reads.Learnt) (fields-at t) fields.Post fields-Inv-loop fields-μ-loop
 fields-part-one-field-start-2 t c = search needs
 
-fields-part-one-field-end-2 : (t : ℕ) → fields-lts.Need-part-one-field-end-2 (read2-reads.Asked, read2-reads.Learnt, put-reads.Asked, put-reads.Learnt, room-reads.Asked, room-reads.Learnt, one-field-below t, one-field.Post, joined-reads.Asked, joined-reads.Learnt, field-len-reads.Asked, field-len-reads.Learnt) (fields-at t) fields.Post fields-Inv-loop fields-μ-loop
+fields-part-one-field-end-2 : (t : ℕ) → fields-lts.Need-part-one-field-end-2 (read2-reads.Asked, read2-reads.Learnt, put-reads.Asked, put-reads.Learnt, room-reads.Asked, room-reads.Learnt, one-field-below t, one-field.Post, joined-reads.Asked, joined-reads.Learnt, field-reach-reads.Asked, field-reach-reads.Learnt) (fields-at t) fields.Post fields-Inv-loop fields-μ-loop
 fields-part-one-field-end-2 t c = search needs
 
-fields-sub-one-field-3 : (t : ℕ) → fields-lts.Need-sub-one-field-3 (read2-reads.Asked, read2-reads.Learnt, put-reads.Asked, put-reads.Learnt, room-reads.Asked, room-reads.Learnt, one-field-below t, one-field.Post, joined-reads.Asked, joined-reads.Learnt, field-len-reads.Asked, field-len-reads.Learnt) (fields-at t) fields.Post fields-Inv-loop fields-μ-loop
+fields-sub-one-field-3 : (t : ℕ) → fields-lts.Need-sub-one-field-3 (read2-reads.Asked, read2-reads.Learnt, put-reads.Asked, put-reads.Learnt, room-reads.Asked, room-reads.Learnt, one-field-below t, one-field.Post, joined-reads.Asked, joined-reads.Learnt, field-reach-reads.Asked, field-reach-reads.Learnt) (fields-at t) fields.Post fields-Inv-loop fields-μ-loop
 fields-sub-one-field-3 t c = schema-there _ _ (ready-reads _ _ (c .before .before .before .before .before .before .before .before .before .before .before .before .before .before .before .pre .1 .0)) .0
 
-fields-one-field-requires : (t : ℕ) → fields-lts.Need-one-field-requires (read2-reads.Asked, read2-reads.Learnt, put-reads.Asked, put-reads.Learnt, room-reads.Asked, room-reads.Learnt, one-field-below t, one-field.Post, joined-reads.Asked, joined-reads.Learnt, field-len-reads.Asked, field-len-reads.Learnt) (fields-at t) fields.Post fields-Inv-loop fields-μ-loop
+fields-one-field-requires : (t : ℕ) → fields-lts.Need-one-field-requires (read2-reads.Asked, read2-reads.Learnt, put-reads.Asked, put-reads.Learnt, room-reads.Asked, room-reads.Learnt, one-field-below t, one-field.Post, joined-reads.Asked, joined-reads.Learnt, field-reach-reads.Asked, field-reach-reads.Learnt) (fields-at t) fields.Post fields-Inv-loop fields-μ-loop
 fields-one-field-requires t c κs = let h = schema-there _ _ (ready-reads _ _ (c .before .before .before .before .before .before .before .before .before .before .before .before .before .before .before .pre .1 .0)) in (omega (arith, c .before .before .before .before .before .before .before .before .before .before .before .before .before .before .before .pre .0), (rw tail-is (fields-ready _ _ _ _ _ _ _ _ _ (c .before .before .before .before .loop .inv) (c .before .before .before .loop-test .taken)), c .before .before .before .before .before .before .before .before .before .before .before .before .before .before .before .pre .1 .1, c .before .before .before .before .before .before .before .before .before .before .before .before .before .before .before .pre .1 .3, c .before .before .before .before .before .before .before .before .before .before .before .before .before .before .before .pre .1 .4))
 
-fields-enum-known-m : (t : ℕ) → fields-lts.Need-enum-known-m (read2-reads.Asked, read2-reads.Learnt, put-reads.Asked, put-reads.Learnt, room-reads.Asked, room-reads.Learnt, one-field-below t, one-field.Post, joined-reads.Asked, joined-reads.Learnt, field-len-reads.Asked, field-len-reads.Learnt) (fields-at t) fields.Post fields-Inv-loop fields-μ-loop
+fields-enum-known-m : (t : ℕ) → fields-lts.Need-enum-known-m (read2-reads.Asked, read2-reads.Learnt, put-reads.Asked, put-reads.Learnt, room-reads.Asked, room-reads.Learnt, one-field-below t, one-field.Post, joined-reads.Asked, joined-reads.Learnt, field-reach-reads.Asked, field-reach-reads.Learnt) (fields-at t) fields.Post fields-Inv-loop fields-μ-loop
 fields-enum-known-m t c = search needs
 
-fields-joined-requires : (t : ℕ) → fields-lts.Need-joined-requires (read2-reads.Asked, read2-reads.Learnt, put-reads.Asked, put-reads.Learnt, room-reads.Asked, room-reads.Learnt, one-field-below t, one-field.Post, joined-reads.Asked, joined-reads.Learnt, field-len-reads.Asked, field-len-reads.Learnt) (fields-at t) fields.Post fields-Inv-loop fields-μ-loop
+fields-joined-requires : (t : ℕ) → fields-lts.Need-joined-requires (read2-reads.Asked, read2-reads.Learnt, put-reads.Asked, put-reads.Learnt, room-reads.Asked, room-reads.Learnt, one-field-below t, one-field.Post, joined-reads.Asked, joined-reads.Learnt, field-reach-reads.Asked, field-reach-reads.Learnt) (fields-at t) fields.Post fields-Inv-loop fields-μ-loop
 fields-joined-requires t c κs = (loop-small _ _ _ _ _ _ _ _ _ (c .before .before .before .before .before .before .before .before .before .before .loop .inv .loop), accepted-small _ _ _ (rw (c .before .m .given .1) at (c .before .before .before .before .before .one-field .ensures)))
 
-fields-enum-known-e : (t : ℕ) → fields-lts.Need-enum-known-e (read2-reads.Asked, read2-reads.Learnt, put-reads.Asked, put-reads.Learnt, room-reads.Asked, room-reads.Learnt, one-field-below t, one-field.Post, joined-reads.Asked, joined-reads.Learnt, field-len-reads.Asked, field-len-reads.Learnt) (fields-at t) fields.Post fields-Inv-loop fields-μ-loop
+fields-enum-known-e : (t : ℕ) → fields-lts.Need-enum-known-e (read2-reads.Asked, read2-reads.Learnt, put-reads.Asked, put-reads.Learnt, room-reads.Asked, room-reads.Learnt, one-field-below t, one-field.Post, joined-reads.Asked, joined-reads.Learnt, field-reach-reads.Asked, field-reach-reads.Learnt) (fields-at t) fields.Post fields-Inv-loop fields-μ-loop
 fields-enum-known-e t c = search needs
 
-fields-same-length : (t : ℕ) → fields-lts.Need-same-length (read2-reads.Asked, read2-reads.Learnt, put-reads.Asked, put-reads.Learnt, room-reads.Asked, room-reads.Learnt, one-field-below t, one-field.Post, joined-reads.Asked, joined-reads.Learnt, field-len-reads.Asked, field-len-reads.Learnt) (fields-at t) fields.Post fields-Inv-loop fields-μ-loop
+fields-same-length : (t : ℕ) → fields-lts.Need-same-length (read2-reads.Asked, read2-reads.Learnt, put-reads.Asked, put-reads.Learnt, room-reads.Asked, room-reads.Learnt, one-field-below t, one-field.Post, joined-reads.Asked, joined-reads.Learnt, field-reach-reads.Asked, field-reach-reads.Learnt) (fields-at t) fields.Post fields-Inv-loop fields-μ-loop
 fields-same-length t c = same-len-mid {X = ℕ} (c .before .before .before .before .before .before .before .before .room .result) (length (c .before .before .before .before .before .before .before .before .before .before .loop .out) - c .before .before .before .before .before .before .before .before .room .result) (c .before .before .before .before .before .before .before .before .before .before .loop .out) (c .before .before .before .before .before .one-field .last .1 .1 .0) (c .before .before .before .before .before .one-field .kept .1 .1 .0) ∙ c .before .before .before .before .before .before .before .before .before .before .loop .inv .loop .same ∙ c .before .before .before .before .before .before .before .before .before .before .before .before .before .put .kept .0
 
-fields-returns : (t : ℕ) → fields-lts.Need-returns (read2-reads.Asked, read2-reads.Learnt, put-reads.Asked, put-reads.Learnt, room-reads.Asked, room-reads.Learnt, one-field-below t, one-field.Post, joined-reads.Asked, joined-reads.Learnt, field-len-reads.Asked, field-len-reads.Learnt) (fields-at t) fields.Post fields-Inv-loop fields-μ-loop
+fields-returns : (t : ℕ) → fields-lts.Need-returns (read2-reads.Asked, read2-reads.Learnt, put-reads.Asked, put-reads.Learnt, room-reads.Asked, room-reads.Learnt, one-field-below t, one-field.Post, joined-reads.Asked, joined-reads.Learnt, field-reach-reads.Asked, field-reach-reads.Learnt) (fields-at t) fields.Post fields-Inv-loop fields-μ-loop
 fields-returns t c = loop-no _ _ _ _ _ _ _ _ _ (c .before .before .before .before .before .before .before .before .before .before .loop .inv .loop) (c .before .before .before .before .before .before .before .before .before .loop-test .taken) _ _ _ (wrote-eq _ _ _ _ (both-second _ _ _) (rw (c .before .e .given .1, tail-is) at (c .before .before .before .before .before .one-field .ensures)))
 
-fields-sub-field-len : (t : ℕ) → fields-lts.Need-sub-field-len (read2-reads.Asked, read2-reads.Learnt, put-reads.Asked, put-reads.Learnt, room-reads.Asked, room-reads.Learnt, one-field-below t, one-field.Post, joined-reads.Asked, joined-reads.Learnt, field-len-reads.Asked, field-len-reads.Learnt) (fields-at t) fields.Post fields-Inv-loop fields-μ-loop
-fields-sub-field-len t c = c .before .before .before .before .before .before .before .before .before .before .before .loop .inv .loop .inside
+fields-sub-field-reach : (t : ℕ) → fields-lts.Need-sub-field-reach (read2-reads.Asked, read2-reads.Learnt, put-reads.Asked, put-reads.Learnt, room-reads.Asked, room-reads.Learnt, one-field-below t, one-field.Post, joined-reads.Asked, joined-reads.Learnt, field-reach-reads.Asked, field-reach-reads.Learnt) (fields-at t) fields.Post fields-Inv-loop fields-μ-loop
+fields-sub-field-reach t c = c .before .before .before .before .before .before .before .before .before .before .before .loop .inv .loop .inside
 
-fields-part-field-len-start : (t : ℕ) → fields-lts.Need-part-field-len-start (read2-reads.Asked, read2-reads.Learnt, put-reads.Asked, put-reads.Learnt, room-reads.Asked, room-reads.Learnt, one-field-below t, one-field.Post, joined-reads.Asked, joined-reads.Learnt, field-len-reads.Asked, field-len-reads.Learnt) (fields-at t) fields.Post fields-Inv-loop fields-μ-loop
-fields-part-field-len-start t c = c .before .before .before .before .before .before .before .before .before .before .before .loop .inv .loop .inside
+fields-part-field-reach-start : (t : ℕ) → fields-lts.Need-part-field-reach-start (read2-reads.Asked, read2-reads.Learnt, put-reads.Asked, put-reads.Learnt, room-reads.Asked, room-reads.Learnt, one-field-below t, one-field.Post, joined-reads.Asked, joined-reads.Learnt, field-reach-reads.Asked, field-reach-reads.Learnt) (fields-at t) fields.Post fields-Inv-loop fields-μ-loop
+fields-part-field-reach-start t c = c .before .before .before .before .before .before .before .before .before .before .before .loop .inv .loop .inside
 
-fields-part-field-len-end : (t : ℕ) → fields-lts.Need-part-field-len-end (read2-reads.Asked, read2-reads.Learnt, put-reads.Asked, put-reads.Learnt, room-reads.Asked, room-reads.Learnt, one-field-below t, one-field.Post, joined-reads.Asked, joined-reads.Learnt, field-len-reads.Asked, field-len-reads.Learnt) (fields-at t) fields.Post fields-Inv-loop fields-μ-loop
-fields-part-field-len-end t c = search needs
+fields-part-field-reach-end : (t : ℕ) → fields-lts.Need-part-field-reach-end (read2-reads.Asked, read2-reads.Learnt, put-reads.Asked, put-reads.Learnt, room-reads.Asked, room-reads.Learnt, one-field-below t, one-field.Post, joined-reads.Asked, joined-reads.Learnt, field-reach-reads.Asked, field-reach-reads.Learnt) (fields-at t) fields.Post fields-Inv-loop fields-μ-loop
+fields-part-field-reach-end t c = search needs
 
-fields-sub-field-len-2 : (t : ℕ) → fields-lts.Need-sub-field-len-2 (read2-reads.Asked, read2-reads.Learnt, put-reads.Asked, put-reads.Learnt, room-reads.Asked, room-reads.Learnt, one-field-below t, one-field.Post, joined-reads.Asked, joined-reads.Learnt, field-len-reads.Asked, field-len-reads.Learnt) (fields-at t) fields.Post fields-Inv-loop fields-μ-loop
-fields-sub-field-len-2 t c = schema-there _ _ (ready-reads _ _ (c .before .before .before .before .before .before .before .before .before .before .before .before .before .before .before .before .before .before .before .before .before .before .before .pre .1 .0)) .0
+fields-sub-field-reach-2 : (t : ℕ) → fields-lts.Need-sub-field-reach-2 (read2-reads.Asked, read2-reads.Learnt, put-reads.Asked, put-reads.Learnt, room-reads.Asked, room-reads.Learnt, one-field-below t, one-field.Post, joined-reads.Asked, joined-reads.Learnt, field-reach-reads.Asked, field-reach-reads.Learnt) (fields-at t) fields.Post fields-Inv-loop fields-μ-loop
+fields-sub-field-reach-2 t c = schema-there _ _ (ready-reads _ _ (c .before .before .before .before .before .before .before .before .before .before .before .before .before .before .before .before .before .before .before .before .before .before .before .pre .1 .0)) .0
 
-fields-field-len-requires : (t : ℕ) → fields-lts.Need-field-len-requires (read2-reads.Asked, read2-reads.Learnt, put-reads.Asked, put-reads.Learnt, room-reads.Asked, room-reads.Learnt, one-field-below t, one-field.Post, joined-reads.Asked, joined-reads.Learnt, field-len-reads.Asked, field-len-reads.Learnt) (fields-at t) fields.Post fields-Inv-loop fields-μ-loop
-fields-field-len-requires t c κs = rw tail-is (loop-first _ _ _ _ _ _ _ _ _ (c .before .before .before .before .before .before .before .before .before .before .before .before .loop .inv .loop) (c .before .before .before .before .before .before .before .before .before .before .before .loop-test .taken))
+fields-field-reach-requires : (t : ℕ) → fields-lts.Need-field-reach-requires (read2-reads.Asked, read2-reads.Learnt, put-reads.Asked, put-reads.Learnt, room-reads.Asked, room-reads.Learnt, one-field-below t, one-field.Post, joined-reads.Asked, joined-reads.Learnt, field-reach-reads.Asked, field-reach-reads.Learnt) (fields-at t) fields.Post fields-Inv-loop fields-μ-loop
+fields-field-reach-requires t c κs = rw tail-is (loop-first _ _ _ _ _ _ _ _ _ (c .before .before .before .before .before .before .before .before .before .before .before .before .loop .inv .loop) (c .before .before .before .before .before .before .before .before .before .before .before .loop-test .taken))
 
-fields-add-from : (t : ℕ) → fields-lts.Need-add-from (read2-reads.Asked, read2-reads.Learnt, put-reads.Asked, put-reads.Learnt, room-reads.Asked, room-reads.Learnt, one-field-below t, one-field.Post, joined-reads.Asked, joined-reads.Learnt, field-len-reads.Asked, field-len-reads.Learnt) (fields-at t) fields.Post fields-Inv-loop fields-μ-loop
-fields-add-from t c = let h = loop-add _ _ _ _ _ _ _ _ _ (c .before .before .before .before .before .before .before .before .before .before .before .before .before .loop .inv .loop) _ (rw tail-is at (c .field-len .ensures)) in omega arith
+fields-add-from : (t : ℕ) → fields-lts.Need-add-from (read2-reads.Asked, read2-reads.Learnt, put-reads.Asked, put-reads.Learnt, room-reads.Asked, room-reads.Learnt, one-field-below t, one-field.Post, joined-reads.Asked, joined-reads.Learnt, field-reach-reads.Asked, field-reach-reads.Learnt) (fields-at t) fields.Post fields-Inv-loop fields-μ-loop
+fields-add-from t c = let h = loop-within _ _ _ _ _ _ _ _ _ (c .before .before .before .before .before .before .before .before .before .before .before .before .before .loop .inv .loop) _ (rw tail-is at (c .field-reach .ensures .0)) in omega arith
 
-fields-sub-left : (t : ℕ) → fields-lts.Need-sub-left (read2-reads.Asked, read2-reads.Learnt, put-reads.Asked, put-reads.Learnt, room-reads.Asked, room-reads.Learnt, one-field-below t, one-field.Post, joined-reads.Asked, joined-reads.Learnt, field-len-reads.Asked, field-len-reads.Learnt) (fields-at t) fields.Post fields-Inv-loop fields-μ-loop
+fields-sub-left : (t : ℕ) → fields-lts.Need-sub-left (read2-reads.Asked, read2-reads.Learnt, put-reads.Asked, put-reads.Learnt, room-reads.Asked, room-reads.Learnt, one-field-below t, one-field.Post, joined-reads.Asked, joined-reads.Learnt, field-reach-reads.Asked, field-reach-reads.Learnt) (fields-at t) fields.Post fields-Inv-loop fields-μ-loop
 fields-sub-left t c = search needs
 
-fields-loop-less : (t : ℕ) → fields-lts.Need-loop-less (read2-reads.Asked, read2-reads.Learnt, put-reads.Asked, put-reads.Learnt, room-reads.Asked, room-reads.Learnt, one-field-below t, one-field.Post, joined-reads.Asked, joined-reads.Learnt, field-len-reads.Asked, field-len-reads.Learnt) (fields-at t) fields.Post fields-Inv-loop fields-μ-loop
+fields-loop-less : (t : ℕ) → fields-lts.Need-loop-less (read2-reads.Asked, read2-reads.Learnt, put-reads.Asked, put-reads.Learnt, room-reads.Asked, room-reads.Learnt, one-field-below t, one-field.Post, joined-reads.Asked, joined-reads.Learnt, field-reach-reads.Asked, field-reach-reads.Learnt) (fields-at t) fields.Post fields-Inv-loop fields-μ-loop
 fields-loop-less t c = search needs
 
-fields-loop-again : (t : ℕ) → fields-lts.Need-loop-again (read2-reads.Asked, read2-reads.Learnt, put-reads.Asked, put-reads.Learnt, room-reads.Asked, room-reads.Learnt, one-field-below t, one-field.Post, joined-reads.Asked, joined-reads.Learnt, field-len-reads.Asked, field-len-reads.Learnt) (fields-at t) fields.Post fields-Inv-loop fields-μ-loop
-fields-loop-again t c = fields-step _ _ _ _ _ _ _ _ _ (c .before .before .before .before .before .before .before .before .before .before .before .before .before .loop .inv) (c .before .before .before .before .before .before .before .before .before .before .before .before .loop-test .taken) _ (rw tail-is at (c .field-len .ensures)) _ _ _ _ (c .before .before .before .before .before .before .before .before .before .before .before .room .ensures) (c .before .before .before .before .before .before .before .before .one-field .kept .1 .1 .0) (wrote-eq _ _ _ _ (both-second _ _ _) (rw (c .before .before .before .before .m .given .1, tail-is) at (c .before .before .before .before .before .before .before .before .one-field .ensures))) (c .before .before .joined .ensures)
+fields-loop-again : (t : ℕ) → fields-lts.Need-loop-again (read2-reads.Asked, read2-reads.Learnt, put-reads.Asked, put-reads.Learnt, room-reads.Asked, room-reads.Learnt, one-field-below t, one-field.Post, joined-reads.Asked, joined-reads.Learnt, field-reach-reads.Asked, field-reach-reads.Learnt) (fields-at t) fields.Post fields-Inv-loop fields-μ-loop
+fields-loop-again t c = fields-step _ _ _ _ _ _ _ _ _ (c .before .before .before .before .before .before .before .before .before .before .before .before .before .loop .inv) (c .before .before .before .before .before .before .before .before .before .before .before .before .loop-test .taken) _ (rw tail-is at (c .field-reach .ensures .0)) (rw tail-is at (c .field-reach .ensures .1)) _ _ _ _ (c .before .before .before .before .before .before .before .before .before .before .before .room .ensures) (c .before .before .before .before .before .before .before .before .one-field .kept .1 .1 .0) (wrote-eq _ _ _ _ (both-second _ _ _) (rw (c .before .before .before .before .m .given .1, tail-is) at (c .before .before .before .before .before .before .before .before .one-field .ensures))) (c .before .before .joined .ensures)
 
-fields-same-length-2 : (t : ℕ) → fields-lts.Need-same-length-2 (read2-reads.Asked, read2-reads.Learnt, put-reads.Asked, put-reads.Learnt, room-reads.Asked, room-reads.Learnt, one-field-below t, one-field.Post, joined-reads.Asked, joined-reads.Learnt, field-len-reads.Asked, field-len-reads.Learnt) (fields-at t) fields.Post fields-Inv-loop fields-μ-loop
+fields-same-length-2 : (t : ℕ) → fields-lts.Need-same-length-2 (read2-reads.Asked, read2-reads.Learnt, put-reads.Asked, put-reads.Learnt, room-reads.Asked, room-reads.Learnt, one-field-below t, one-field.Post, joined-reads.Asked, joined-reads.Learnt, field-reach-reads.Asked, field-reach-reads.Learnt) (fields-at t) fields.Post fields-Inv-loop fields-μ-loop
 fields-same-length-2 t c = c .before .loop .inv .loop .same ∙ c .before .before .before .before .put .kept .0
 
-fields-returns-2 : (t : ℕ) → fields-lts.Need-returns-2 (read2-reads.Asked, read2-reads.Learnt, put-reads.Asked, put-reads.Learnt, room-reads.Asked, room-reads.Learnt, one-field-below t, one-field.Post, joined-reads.Asked, joined-reads.Learnt, field-len-reads.Asked, field-len-reads.Learnt) (fields-at t) fields.Post fields-Inv-loop fields-μ-loop
+fields-returns-2 : (t : ℕ) → fields-lts.Need-returns-2 (read2-reads.Asked, read2-reads.Learnt, put-reads.Asked, put-reads.Learnt, room-reads.Asked, room-reads.Learnt, one-field-below t, one-field.Post, joined-reads.Asked, joined-reads.Learnt, field-reach-reads.Asked, field-reach-reads.Learnt) (fields-at t) fields.Post fields-Inv-loop fields-μ-loop
 fields-returns-2 t c = loop-end _ _ _ _ _ _ _ _ _ (c .before .loop .inv .loop) (c .loop-test .left)
 
 abbrev find-any-Inv-loop : find-any-lts.InvT-loop
@@ -1682,8 +1682,8 @@ pub +any-of+default+entry+fields+find-any+find-named+indexed+keyed+named-of+one-
       one-field.Post,
       joined-reads.Asked,
       joined-reads.Learnt,
-      field-len-reads.Asked,
-      field-len-reads.Learnt,
+      field-reach-reads.Asked,
+      field-reach-reads.Learnt,
     )
     (fields-at t)
     fields.Post
@@ -1707,11 +1707,11 @@ pub +any-of+default+entry+fields+find-any+find-named+indexed+keyed+named-of+one-
     (fields-enum-known-e t)
     (fields-same-length t)
     (fields-returns t)
-    (fields-sub-field-len t)
-    (fields-part-field-len-start t)
-    (fields-part-field-len-end t)
-    (fields-sub-field-len-2 t)
-    (fields-field-len-requires t)
+    (fields-sub-field-reach t)
+    (fields-part-field-reach-start t)
+    (fields-part-field-reach-end t)
+    (fields-sub-field-reach-2 t)
+    (fields-field-reach-requires t)
     (fields-add-from t)
     (fields-sub-left t)
     (fields-loop-less t)
