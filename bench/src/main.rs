@@ -28,7 +28,7 @@ fn main() -> ExitCode {
     println!("Least of {rounds} runs. Lengths of schema and value in bytes; then nanoseconds per call,");
     println!("nanoseconds per byte of value (B), and the crate's time over Hulmbax's. crate: the schema");
     println!("frame is read in each call; kept: once for all. Hulmbax reads and checks it in each call,");
-    println!("and clears its workspace of 65,536 bytes in each; such a fill alone takes {clearing:.0} ns.");
+    println!("and leaves its workspace of 65,536 bytes zero in each; a fill of so many takes {clearing:.0} ns.");
     println!("No buffer is cleared before a call.");
     let tables: [(&str, Vec<Row>); 5] = [
         ("Frames", rows::rows()),
