@@ -1,11 +1,13 @@
 -- What a default becomes in the first variant of its union, and whether that is short, at each way of the code.
-use Prim.Native.Nat.{ℕ, _-_, _≤_, _<_, min}
+use Prim.Native.Nat.{ℕ, _+_, _-_, _≤_, _<_, min}
 use mathlib.Core.Path.{_≡_, refl, sym, ap, _∙_, subst}
 use mathlib.Core.List.{List}
+use mathlib.Core.Option.{some}
 use mathlib.Core.Bool.{Bool, true, false, _&&_, _||_, not, and-true, and-false}
 use native.Mathlib.Omega.{arith}
 use lib.Dec.{T, leb, eqb}
-use lib.ListN.{length, getD, drop}
+use lib.ListN.{length, getD, drop, length-drop}
+use lib.Seq.{drop-drop}
 use lib.Ieee.Fits.{and-l, and-r}
 use borrow.Author.Tests.{le-leb, lt-leb, leb-true, leb-false, eq-eqb, ne-eqb}
 use Rattle.base.specs.Base.{ok, no, after}
@@ -15,6 +17,7 @@ use Rattle.frame.specs.ValueFrame.{table, readValue, encodeValue, writeScalar}
 use Rattle.frame.specs.SchemaFrame.{readField, readSchema}
 use Rattle.frame.specs.Sound.{schemaSound, defaultAllowed, defaultKinds, defaultScalar, keysRise}
 use Rattle.frame.proofs.Reading.{read-what}
+use Rattle.frame.proofs.Measuring.{spans-some, spans-rest}
 use Rattle.frame.proofs.SchemaNodes.{schema-there, schema-kind}
 use Rattle.types.specs.Types.{Outcome}
 use Rattle.types.specs.Contract.{encoded, onBoth}
@@ -25,9 +28,9 @@ use Rattle.avro.specs.Resolve.{resolve, startDefault, first}
 use Rattle.avro.specs.Defaults.{defaultsShort, shortDefault, shortStart}
 use Rattle.field.specs.Parts.{FieldParts, DefaultAt}
 use Rattle.resolution.specs.Contract.{Ready, nodeBytes}
-use Rattle.resolution.specs.Shortness.{SoundRead, testRead, fieldShort}
+use Rattle.resolution.specs.Shortness.{SoundRead, testRead, ShortLen, fieldShort}
 use Rattle.field.specs.declared.FieldAt.{FieldAt}
-use Rattle.resolution.proofs.SoundParts.{test-some, short-ready}
+use Rattle.resolution.proofs.SoundParts.{test-some, zero-fails, some-passes, some-spans, len-le, fails-zero, passes-len, short-ready}
 use Rattle.resolution.proofs.ReadParts.{ready-reads}
 use Rattle.resolution.proofs.Pieces.{both-some}
 use Rattle.resolution.proofs.FieldBytes.{Given, default-given, default-none}
@@ -134,28 +137,40 @@ module _ (d : ℕ) (s : List ℕ) (f : FieldAt) (w : SoundRead fieldSound (readF
   unfolding fieldShort
   field-whole = test-some fieldShort _ (g .name, g .default, g .tree) (g .rest) (g .reads)
 
-  module _ (b : Bool) (e : b ≡ testRead defaultsShort (readSchema d (drop (f .«schema_at») s))) where
-    inner-is : defaultsShort (g .tree) ≡ b
-    inner-is = sym (e ∙ test-some defaultsShort _ (g .tree) (g .rest) (g .schema-at))
+  field-by : testRead fieldShort (readField (readSchema d) s) ≡ (shortDefault (g .tree) (g .default) && testRead defaultsShort (readSchema d (drop (f .«schema_at») s)))
+  field-by = field-whole ∙ ap (λ x. shortDefault (g .tree) (g .default) && x) (sym (test-some defaultsShort _ (g .tree) (g .rest) (g .schema-at)))
 
-    field-by : testRead fieldShort (readField (readSchema d) s) ≡ (shortDefault (g .tree) (g .default) && b)
-    field-by = field-whole ∙ ap (λ x. shortDefault (g .tree) (g .default) && x) inner-is
+  module _ (n : ℕ) (v : ShortLen defaultsShort (readSchema d (drop (f .«schema_at») s)) (drop (f .«schema_at») s) n) where
+    pub inner-long : n ≡ 0 → ShortLen fieldShort (readField (readSchema d) s) s 0
+    inner-long e =
+        fails-zero fieldShort _ s
+        (field-by ∙ ap (λ x. shortDefault (g .tree) (g .default) && x) (zero-fails defaultsShort _ _ n v e) ∙ and-false (shortDefault (g .tree) (g .default)))
 
-    pub inner-long : b ≡ false → false ≡ testRead fieldShort (readField (readSchema d) s)
-    inner-long q = sym (field-by ∙ ap (λ x. shortDefault (g .tree) (g .default) && x) q ∙ and-false (shortDefault (g .tree) (g .default)))
+    pub field-inside : f .«schema_at» + n ≤ length s
+    field-inside = omega (arith, g .inside, len-le defaultsShort _ _ n v, length-drop (f .«schema_at») s)
 
-    module _ (q : b ≡ true) where
+    module _ (q : n ≡ 0 → ⊥) where
+      inner-short : testRead defaultsShort (readSchema d (drop (f .«schema_at») s)) ≡ true
+      inner-short = some-passes defaultsShort _ _ n v q
+
       own : testRead fieldShort (readField (readSchema d) s) ≡ shortDefault (g .tree) (g .default)
-      own = field-by ∙ ap (λ x. shortDefault (g .tree) (g .default) && x) q ∙ and-true (shortDefault (g .tree) (g .default))
+      own = field-by ∙ ap (λ x. shortDefault (g .tree) (g .default) && x) inner-short ∙ and-true (shortDefault (g .tree) (g .default))
 
-      pub none-short : f .default ≡ false → true ≡ testRead fieldShort (readField (readSchema d) s)
+      -- the field ends where its schema does
+      field-len : shortDefault (g .tree) (g .default) ≡ true → ShortLen fieldShort (readField (readSchema d) s) s (f .«schema_at» + n)
+      field-len z =
+          let t : g .rest ≡ drop (f .«schema_at» + n) s = spans-rest _ _ n (some-spans defaultsShort _ _ n v q) (g .tree) (g .rest) (g .schema-at) ∙ drop-drop n (f .«schema_at») s in
+          passes-len fieldShort _ s _ (omega (arith, q)) (own ∙ z)
+          (spans-some _ s _ (g .name, g .default, g .tree) field-inside (g .reads ∙ ap (λ r. some ((g .name, g .default, g .tree), r)) t))
+
+      pub none-short : f .default ≡ false → ShortLen fieldShort (readField (readSchema d) s) s (f .«schema_at» + n)
       unfolding shortDefault
-      none-short n =
-          let z = default-none s (f .«default_at») (g .default) (subst (λ x. DefaultAt s x (f .«default_at») (g .default)) n (g .default-at)) in
-          sym (own ∙ ap (shortDefault (g .tree)) z)
+      none-short e =
+          let z = default-none s (f .«default_at») (g .default) (subst (λ x. DefaultAt s x (f .«default_at») (g .default)) e (g .default-at)) in
+          field-len (ap (shortDefault (g .tree)) z)
 
       pub inner-ready : Ready d (drop (f .«schema_at») s)
-      inner-ready = short-ready d (drop (f .«schema_at») s) b inner-sound e q
+      inner-ready = short-ready d (drop (f .«schema_at») s) inner-sound inner-short
 
       module _ (y : f .default ≡ true) where
         given : Given s (f .«default_at») (g .default)
@@ -167,13 +182,19 @@ module _ (d : ℕ) (s : List ℕ) (f : FieldAt) (w : SoundRead fieldSound (readF
         pub default-sound : SoundRead defaultKinds (readValue 16 (drop (f .«default_at») s))
         unfolding defaultAllowed
         default-sound =
-            let v = given .value in
-            let h : T (defaultKinds v && keysRise v) = subst (λ x. T (defaultAllowed x)) (given .there) (and-l (defaultAllowed (g .default)) (schemaSound (g .tree)) field-is-sound) in
-            record { tree = v; rest = given .rest; reads = given .reads; sound = and-l (defaultKinds v) (keysRise v) h }
+            let u = given .value in
+            let h : T (defaultKinds u && keysRise u) = subst (λ x. T (defaultAllowed x)) (given .there) (and-l (defaultAllowed (g .default)) (schemaSound (g .tree)) field-is-sound) in
+            record { tree = u; rest = given .rest; reads = given .reads; sound = and-l (defaultKinds u) (keysRise u) h }
 
-        pub start-short : (r : Bool) → r ≡ shortStart (onBoth startDefault (readSchema d (drop (f .«schema_at») s)) (readValue 16 (drop (f .«default_at») s)))
-            → r ≡ testRead fieldShort (readField (readSchema d) s)
-        unfolding shortDefault
-        start-short r n =
-            n ∙ ap shortStart (both-some startDefault _ _ (g .tree) (given .value) (g .rest) (given .rest) (g .schema-at) (given .reads))
-            ∙ sym (own ∙ ap (shortDefault (g .tree)) (given .there))
+        module _ (r : Bool) (e : r ≡ shortStart (onBoth startDefault (readSchema d (drop (f .«schema_at») s)) (readValue 16 (drop (f .«default_at») s)))) where
+          default-is : shortDefault (g .tree) (g .default) ≡ r
+          unfolding shortDefault
+          default-is =
+              ap (shortDefault (g .tree)) (given .there)
+              ∙ sym (e ∙ ap shortStart (both-some startDefault _ _ (g .tree) (given .value) (g .rest) (given .rest) (g .schema-at) (given .reads)))
+
+          pub start-long : r ≡ false → ShortLen fieldShort (readField (readSchema d) s) s 0
+          start-long z = fails-zero fieldShort _ s (own ∙ default-is ∙ z)
+
+          pub start-short : r ≡ true → ShortLen fieldShort (readField (readSchema d) s) s (f .«schema_at» + n)
+          start-short z = field-len (default-is ∙ z)

@@ -1,6 +1,6 @@
--- Sound parts of a schema frame, and whether their defaults are short: the children of a node, and the loops over the variants of a
--- union and the fields of a record.
-use Prim.Native.Nat.{ℕ, _+_, _-_, _≤_, _<_}
+-- Sound parts of a schema frame, and the lengths of those whose defaults are short: the children of a node, and the loops over the
+-- variants of a union and the fields of a record.
+use Prim.Native.Nat.{ℕ, zero, suc, _+_, _-_, _≤_, _<_}
 use mathlib.Core.Path.{_≡_, refl, sym, ap, _∙_, subst}
 use mathlib.Core.List.{List, [], _∷_}
 use mathlib.Core.Option.{Option, none, some}
@@ -10,6 +10,7 @@ use lib.Dec.{T, ltb, eqb, ltb→lt}
 use lib.ListN.{length, getD, drop, length-drop}
 use lib.Seq.{drop-drop}
 use lib.Ieee.Fits.{and-i, and-l, and-r}
+use borrow.Author.Tests.{ne-eqb}
 use Rattle.number.specs.Number.{numberAt}
 use Rattle.text.specs.Text.{Text}
 use Rattle.text.specs.Read.{Read, _>>=_}
@@ -20,14 +21,15 @@ use Rattle.frame.specs.SchemaFrame.{fieldsOf, variantsOf, readField, readSchema
 use Rattle.frame.specs.Sound.{schemaSound, fieldsSound, variantsSound, kindsSound, positionsSound, countVariants, hasField, defaultAllowed}
 use Rattle.frame.specs.Checks.{Spans}
 use Rattle.frame.proofs.Reading.{mapRead, map-inv, reads-some}
-use Rattle.frame.proofs.Measuring.{spans-rest}
+use Rattle.frame.proofs.Measuring.{spans-le, spans-some, spans-rest, spans-eq, spans-drop, spans-map}
 use Rattle.frame.proofs.Counting.{First, many-first, many-none}
 use Rattle.frame.proofs.SchemaNodes.{schema-there, schema-kind}
 use Rattle.schema.specs.Parts.{fieldSound}
 use Rattle.avro.specs.Defaults.{defaultsShort, fieldDefaultsShort, variantDefaultsShort}
 use Rattle.resolution.specs.Contract.{Ready}
-use Rattle.resolution.specs.Shortness.{SoundRead, testRead, fieldShort}
+use Rattle.resolution.specs.Shortness.{SoundRead, testRead, ShortLen, nextLen, fieldShort}
 use Rattle.resolution.proofs.ReadParts.{schema-array, schema-map, schema-fields}
+use Rattle.resolution.proofs.NodeLengths.{node-some}
 use Rattle.resolution.proofs.UnionReading.{union-parts}
 
 -- ---- what was read
@@ -38,6 +40,57 @@ sound-reads w = reads-some (w .tree) (w .rest) (w .reads)
 pub test-some : {A : Type 0} (test : A → Bool) (x : Read A) (a : A) (r : List ℕ) → x ≡ some (a, r) → testRead test x ≡ test a
 unfolding testRead
 test-some test x a r e = ap (testRead test) e
+
+-- ---- the length of what passes a test
+
+module _ {A : Type 0} (test : A → Bool) (x : Read A) (s : List ℕ) where
+  pub zero-fails : (n : ℕ) → ShortLen test x s n → n ≡ 0 → testRead test x ≡ false
+  unfolding ShortLen
+  zero-fails zero w e = w
+  zero-fails (suc n) w e = absurd (omega arith)
+
+  pub some-passes : (n : ℕ) → ShortLen test x s n → (n ≡ 0 → ⊥) → testRead test x ≡ true
+  unfolding ShortLen
+  some-passes zero w f = absurd (f refl)
+  some-passes (suc n) w f = w .0
+
+  pub some-spans : (n : ℕ) → ShortLen test x s n → (n ≡ 0 → ⊥) → Spans x s n
+  unfolding ShortLen
+  some-spans zero w f = absurd (f refl)
+  some-spans (suc n) w f = w .1
+
+  pub len-le : (n : ℕ) → ShortLen test x s n → n ≤ length s
+  unfolding ShortLen
+  len-le zero w = omega arith
+  len-le (suc n) w = spans-le x s (suc n) (w .1)
+
+  pub len-tells : (n : ℕ) → ShortLen test x s n → not (eqb n 0) ≡ testRead test x
+  unfolding ShortLen
+  len-tells zero w = sym w
+  len-tells (suc n) w = ap not (ne-eqb (suc n) 0 (λ e. omega arith)) ∙ sym (w .0)
+
+  pub fails-zero : testRead test x ≡ false → ShortLen test x s 0
+  unfolding ShortLen
+  fails-zero e = e
+
+  pub passes-len : (n : ℕ) → 0 < n → testRead test x ≡ true → Spans x s n → ShortLen test x s n
+  unfolding ShortLen
+  passes-len zero h e v = absurd (omega arith)
+  passes-len (suc n) h e v = (e, v)
+
+pub next-zero : (n : ℕ) → n ≡ 0 → 0 ≡ nextLen n
+unfolding nextLen
+next-zero zero e = refl
+next-zero (suc n) e = absurd (omega arith)
+
+pub next-some : (n : ℕ) → (n ≡ 0 → ⊥) → n + 1 ≡ nextLen n
+unfolding nextLen
+next-some zero f = absurd (f refl)
+next-some (suc n) f = omega arith
+
+-- a node whose defaults are short
+pub node-len : (d : ℕ) (s : List ℕ) → testRead defaultsShort (readSchema d s) ≡ true → (n : ℕ) → Spans (readSchema d s) s n → ShortLen defaultsShort (readSchema d s) s n
+node-len d s e n v = passes-len defaultsShort (readSchema d s) s n (node-some d s n v) e v
 
 -- ---- a node that is as sound and as short as its child
 
@@ -54,6 +107,14 @@ module _ {A B : Type 0} (g : A → B) (f : A → Bool) (h : B → Bool) (q : (a 
 
   child-test : (x : Read B) (y : Read A) → x ≡ mapRead g y → testRead h x ≡ testRead f y
   child-test x y e = ap (testRead h) e ∙ test-map y
+
+  -- the child stands behind the kind byte
+  child-len : (x : Read B) (y : Read A) (s : List ℕ) → 0 < length s → x ≡ mapRead g y → (n : ℕ) → ShortLen f y (drop 1 s) n → ShortLen h x s (nextLen n)
+  unfolding ShortLen nextLen
+  child-len x y s l e zero w = child-test x y e ∙ w
+  child-len x y s l e (suc n) w =
+      let k : 1 + suc n ≡ suc (suc n) = omega arith in
+      (child-test x y e ∙ w .0, subst (Spans x s) k (spans-eq x (mapRead g y) s (1 + suc n) e (spans-map g y s (1 + suc n) (spans-drop y s 1 (suc n) l (w .1)))))
 
 -- a schema that has no child has no default
 leaf : (t : Schema) (k : ℕ) → schemaKind t ≡ k → (k ≡ 8 → ⊥) → (k ≡ 9 → ⊥) → (k ≡ 10 → ⊥) → (k ≡ 11 → ⊥) → defaultsShort t ≡ true
@@ -77,43 +138,45 @@ module _ (d : ℕ) (s : List ℕ) (w : SoundRead schemaSound (readSchema d s)) w
   unfolding schemaSound
   items-sound e = child-sound Schema.Array schemaSound schemaSound (λ a. refl) _ _ (schema-array d s (sound-reads w) e) w
 
-  pub items-short : getD s 0 0 ≡ 8 → testRead defaultsShort (readSchema (d - 1) (drop 1 s)) ≡ testRead defaultsShort (readSchema d s)
+  pub items-len : getD s 0 0 ≡ 8 → (n : ℕ) → ShortLen defaultsShort (readSchema (d - 1) (drop 1 s)) (drop 1 s) n → ShortLen defaultsShort (readSchema d s) s (nextLen n)
   unfolding defaultsShort
-  items-short e = sym (child-test Schema.Array defaultsShort defaultsShort (λ a. refl) _ _ (schema-array d s (sound-reads w) e))
+  items-len e = child-len Schema.Array defaultsShort defaultsShort (λ a. refl) _ _ s (sound-there .1) (schema-array d s (sound-reads w) e)
 
   pub values-sound : getD s 0 0 ≡ 9 → SoundRead schemaSound (readSchema (d - 1) (drop 1 s))
   unfolding schemaSound
   values-sound e = child-sound Schema.Map schemaSound schemaSound (λ a. refl) _ _ (schema-map d s (sound-reads w) e) w
 
-  pub values-short : getD s 0 0 ≡ 9 → testRead defaultsShort (readSchema (d - 1) (drop 1 s)) ≡ testRead defaultsShort (readSchema d s)
+  pub values-len : getD s 0 0 ≡ 9 → (n : ℕ) → ShortLen defaultsShort (readSchema (d - 1) (drop 1 s)) (drop 1 s) n → ShortLen defaultsShort (readSchema d s) s (nextLen n)
   unfolding defaultsShort
-  values-short e = sym (child-test Schema.Map defaultsShort defaultsShort (λ a. refl) _ _ (schema-map d s (sound-reads w) e))
+  values-len e = child-len Schema.Map defaultsShort defaultsShort (λ a. refl) _ _ s (sound-there .1) (schema-map d s (sound-reads w) e)
 
-  pub leaf-short : (getD s 0 0 ≡ 8 → ⊥) → (getD s 0 0 ≡ 9 → ⊥) → (getD s 0 0 ≡ 10 → ⊥) → (getD s 0 0 ≡ 11 → ⊥) → true ≡ testRead defaultsShort (readSchema d s)
-  leaf-short a m u r =
+  pub leaf-len : (getD s 0 0 ≡ 8 → ⊥) → (getD s 0 0 ≡ 9 → ⊥) → (getD s 0 0 ≡ 10 → ⊥) → (getD s 0 0 ≡ 11 → ⊥) → (n : ℕ) → Spans (readSchema d s) s n → ShortLen defaultsShort (readSchema d s) s n
+  leaf-len a m u r =
       let k = schema-kind d s (w .tree) (w .rest) (w .reads) in
-      sym (test-some defaultsShort _ (w .tree) (w .rest) (w .reads) ∙ leaf (w .tree) (getD s 0 0) k a m u r)
+      node-len d s (test-some defaultsShort _ (w .tree) (w .rest) (w .reads) ∙ leaf (w .tree) (getD s 0 0) k a m u r)
 
 -- a sound schema whose defaults turned out short
-pub short-ready : (d : ℕ) (s : List ℕ) (b : Bool) → SoundRead schemaSound (readSchema d s) → b ≡ testRead defaultsShort (readSchema d s) → b ≡ true → Ready d s
-short-ready d s b w e q = record {
+pub short-ready : (d : ℕ) (s : List ℕ) → SoundRead schemaSound (readSchema d s) → testRead defaultsShort (readSchema d s) ≡ true → Ready d s
+short-ready d s w e = record {
   tree = w .tree;
   rest = w .rest;
   reads = w .reads;
   sound = w .sound;
-  short = subst T (sym q ∙ e ∙ test-some defaultsShort _ (w .tree) (w .rest) (w .reads)) tt;
+  short = subst T (sym e ∙ test-some defaultsShort _ (w .tree) (w .rest) (w .reads)) tt;
 }
 
 -- ---- a loop over things that are known to be there and sound
 
--- it has come to `at` with `left` of them to go: these are sound, and `whole` says whether they are short
-pub record Left {A : Type 0} (p : List ℕ → Read A) (sound short : List A → Bool) (whole : Bool) (s : List ℕ) (left at : ℕ) : Type 0 where
+-- it has come to `at` with `left` of them to go: these are sound, `whole` says whether they are short, and `end` holds of what is
+-- behind them
+pub record Left {A : Type 0} (p : List ℕ → Read A) (sound short : List A → Bool) (whole : Bool) (end : List ℕ → Type 0) (s : List ℕ) (left at : ℕ) : Type 0 where
   pub inside : at ≤ length s
   pub items : List A
   pub rest : List ℕ
   pub reads : readMany p left (drop at s) ≡ some (items, rest)
   pub are-sound : T (sound items)
   pub are-short : whole ≡ short items
+  pub ends : end rest
 
 -- how soundness and shortness of many go by those of one
 pub record Piecewise {A : Type 0} (sound short : List A → Bool) (one test : A → Bool) : Type 0 where
@@ -122,42 +185,42 @@ pub record Piecewise {A : Type 0} (sound short : List A → Bool) (one test : A 
   pub others-sound : (a : A) (xs : List A) → T (sound (a ∷ xs)) → T (sound xs)
   pub short-both : (a : A) (xs : List A) → short (a ∷ xs) ≡ (test a && short xs)
 
-module _ {A : Type 0} {p : List ℕ → Read A} {sound short : List A → Bool} {one test : A → Bool} (by : Piecewise sound short one test) {whole : Bool} {s : List ℕ} {left at : ℕ} (w : Left p sound short whole s left at) where
+module _ {A : Type 0} {p : List ℕ → Read A} {sound short : List A → Bool} {one test : A → Bool} (by : Piecewise sound short one test) {whole : Bool} {end : List ℕ → Type 0} {s : List ℕ} {left at : ℕ} (w : Left p sound short whole end s left at) where
   pub left-first : 0 < left → SoundRead one (p (drop at s))
   left-first h =
       let f = many-first p left (drop at s) (w .items) (w .rest) h (w .reads) in
       record { tree = f .item; rest = f .behind; reads = f .first; sound = by .first-sound (f .item) (f .others) (subst (λ l. T (sound l)) (f .cons) (w .are-sound)) }
 
-  left-both : (b : Bool) → b ≡ testRead test (p (drop at s)) → (f : First p left (drop at s) (w .items) (w .rest)) → whole ≡ (b && short (f .others))
-  left-both b e f =
+  left-both : (f : First p left (drop at s) (w .items) (w .rest)) → whole ≡ (testRead test (p (drop at s)) && short (f .others))
+  left-both f =
       w .are-short ∙ ap short (f .cons) ∙ by .short-both (f .item) (f .others)
-      ∙ ap (λ x. x && short (f .others)) (sym (e ∙ test-some test _ (f .item) (f .behind) (f .first)))
+      ∙ ap (λ x. x && short (f .others)) (sym (test-some test _ (f .item) (f .behind) (f .first)))
 
   -- one that is not short
-  pub left-long : 0 < left → (b : Bool) → b ≡ testRead test (p (drop at s)) → b ≡ false → false ≡ whole
-  left-long h b e g =
+  pub left-long : 0 < left → (m : ℕ) → ShortLen test (p (drop at s)) (drop at s) m → m ≡ 0 → whole ≡ false
+  left-long h m v e =
       let f = many-first p left (drop at s) (w .items) (w .rest) h (w .reads) in
-      sym (left-both b e f ∙ ap (λ x. x && short (f .others)) g)
+      left-both f ∙ ap (λ x. x && short (f .others)) (zero-fails test _ _ m v e)
 
   -- one that is short, of m bytes
-  pub left-short : 0 < left → (b : Bool) → b ≡ testRead test (p (drop at s)) → b ≡ true → (m : ℕ) → Spans (p (drop at s)) (drop at s) m → Left p sound short whole s (left - 1) (at + m)
-  unfolding Spans
-  left-short h b e g m v =
+  pub left-short : 0 < left → (m : ℕ) → ShortLen test (p (drop at s)) (drop at s) m → (m ≡ 0 → ⊥) → Left p sound short whole end s (left - 1) (at + m)
+  left-short h m v g =
       let f = many-first p left (drop at s) (w .items) (w .rest) h (w .reads) in
-      let t : f .behind ≡ drop (at + m) s = spans-rest _ _ m v (f .item) (f .behind) (f .first) ∙ drop-drop m at s in
+      let t : f .behind ≡ drop (at + m) s = spans-rest _ _ m (some-spans test _ _ m v g) (f .item) (f .behind) (f .first) ∙ drop-drop m at s in
       record {
-        inside = omega (arith, w .inside, v .0, length-drop at s);
+        inside = omega (arith, w .inside, len-le test _ _ m v, length-drop at s);
         items = f .others;
         rest = w .rest;
         reads = ap (readMany p (left - 1)) (sym t) ∙ f .reads;
         are-sound = by .others-sound (f .item) (f .others) (subst (λ l. T (sound l)) (f .cons) (w .are-sound));
-        are-short = left-both b e f ∙ ap (λ x. x && short (f .others)) g;
+        are-short = left-both f ∙ ap (λ x. x && short (f .others)) (some-passes test _ _ m v g);
+        ends = w .ends;
       }
 
-  pub left-end : left ≤ 0 → true ≡ whole
+  pub left-end : left ≤ 0 → (whole ≡ true) × end (drop at s)
   left-end h =
-      let q : w .items ≡ [] = many-none p left (drop at s) (w .items) (w .rest) h (w .reads) .0 in
-      sym (w .are-short ∙ ap short q ∙ by .none-short)
+      let q = many-none p left (drop at s) (w .items) (w .rest) h (w .reads) in
+      (w .are-short ∙ ap short (q .0) ∙ by .none-short, subst end (sym (q .1)) (w .ends))
 
 -- ---- the fields of a record
 
@@ -167,8 +230,9 @@ allFieldsSound fs = fieldsSound (fieldsOf fs)
 abbrev pub allFieldsShort : List (Text × Option Value × Schema) → Bool
 allFieldsShort fs = fieldDefaultsShort (fieldsOf fs)
 
+-- behind the fields stands what is behind their record
 abbrev pub FieldsLeft : ℕ → List ℕ → ℕ → ℕ → Type 0
-FieldsLeft d s left at = Left (readField (readSchema (d - 1))) allFieldsSound allFieldsShort (testRead defaultsShort (readSchema d s)) s left at
+FieldsLeft d s left at = Left (readField (readSchema (d - 1))) allFieldsSound allFieldsShort (testRead defaultsShort (readSchema d s)) (λ r. (t : Schema) × (readSchema d s ≡ some (t, r))) s left at
 
 pub by-fields : Piecewise allFieldsSound allFieldsShort fieldSound fieldShort
 unfolding schemaSound defaultsShort fieldsOf fieldShort
@@ -198,7 +262,13 @@ module _ (d : ℕ) (s : List ℕ) (w : SoundRead schemaSound (readSchema d s)) (
         reads = ap (λ k. readMany p k (drop 3 s)) q ∙ m .1 .0;
         are-sound = subst (λ t. T (schemaSound t)) (m .1 .1) (w .sound);
         are-short = test-some defaultsShort _ (w .tree) (w .rest) (w .reads) ∙ ap defaultsShort (m .1 .1);
+        ends = (w .tree, w .reads);
       }
+
+pub fields-end : (d : ℕ) (s : List ℕ) (left at : ℕ) → FieldsLeft d s left at → left ≤ 0 → ShortLen defaultsShort (readSchema d s) s at
+fields-end d s left at w h =
+    let q = left-end by-fields w h in
+    node-len d s (q .0) at (spans-some (readSchema d s) s at (q .1 .0) (w .inside) (q .1 .1))
 
 -- ---- the variants of a union
 
@@ -222,7 +292,7 @@ abbrev pub allVariantsShort : List Schema → Bool
 allVariantsShort vs = variantDefaultsShort (variantsOf vs)
 
 abbrev pub VariantsLeft : ℕ → List ℕ → ℕ → ℕ → Type 0
-VariantsLeft d s left at = Left (readSchema (d - 1)) allVariantsSound allVariantsShort (testRead defaultsShort (readSchema d s)) s left at
+VariantsLeft d s left at = Left (readSchema (d - 1)) allVariantsSound allVariantsShort (testRead defaultsShort (readSchema d s)) (λ r. Unit) s left at
 
 pub by-variants : Piecewise allVariantsSound allVariantsShort schemaSound defaultsShort
 unfolding variantsOf defaultsShort
@@ -248,4 +318,5 @@ module _ (d : ℕ) (s : List ℕ) (w : SoundRead schemaSound (readSchema d s)) (
         reads = ap (λ k. readMany (readSchema (d - 1)) k (drop 3 s)) q ∙ p .reads-variants;
         are-sound = union-sound (variantsOf (p .variants)) (p .kinds) (p .named) (subst (λ t. T (schemaSound t)) (p .is) (w .sound)) .1;
         are-short = test-some defaultsShort _ (w .tree) (w .rest) (w .reads) ∙ ap defaultsShort (p .is);
+        ends = tt;
       }

@@ -1,7 +1,7 @@
 -- `avro::defaults::start_short` meets its contract. Assumes nothing.
 use borrow.Author.Needs.{needs}
+use borrow.Rule.Slice.PartAt.{part-to-end}
 use native.Mathlib.Omega.{arith}
-use Rattle.buffer.proofs.BuiltLaws.{tail-is}
 use Rattle.resolution.proofs.SoundParts.{sound-reads}
 use Rattle.resolution.proofs.DefaultBytes.{first-long, first-ready}
 use Rattle.resolution.proofs.DefaultLaws.{ready-there, alone-short, null-short, accepted-short, refused-short}
@@ -33,7 +33,7 @@ sub-resolve-node-2 : tie.Need-sub-resolve-node-2
 sub-resolve-node-2 c = ready-there (c .before .before .before .before .before .before .before .before .before .args .ds) (c .before .before .before .before .before .before .before .before .before .args .s .now) (c .before .before .before .before .before .before .before .before .before .pre .0) .0
 
 resolve-node-requires : tie.Need-resolve-node-requires
-resolve-node-requires c κs = (rw tail-is (first-ready (c .before .before .before .before .before .before .before .before .before .args .ds) (c .before .before .before .before .before .before .before .before .before .args .s .now) (c .before .before .before .before .before .before .before .before .before .pre .0) (c .before .before .before .before .if1 .left)), sound-reads (c .before .before .before .before .before .before .before .before .before .pre .1))
+resolve-node-requires c κs = (rw part-to-end (first-ready (c .before .before .before .before .before .before .before .before .before .args .ds) (c .before .before .before .before .before .before .before .before .before .args .s .now) (c .before .before .before .before .before .before .before .before .before .pre .0) (c .before .before .before .before .if1 .left)), sound-reads (c .before .before .before .before .before .before .before .before .before .pre .1))
 
 enum-known-n : tie.Need-enum-known-n
 enum-known-n c = search needs
@@ -45,13 +45,13 @@ same-length : tie.Need-same-length
 same-length c = search needs
 
 returns-3 : tie.Need-returns-3
-returns-3 c = accepted-short (c .before .before .before .before .before .before .before .before .before .before .before .before .before .before .before .args .ds) (c .before .before .before .before .before .before .before .before .before .before .before .before .before .before .before .args .s .now) (c .before .before .before .before .before .before .before .before .before .before .before .before .before .before .before .args .d .now) (c .before .before .before .before .before .before .before .before .before .before .before .before .before .before .before .pre .0) (c .before .before .before .before .before .before .before .before .before .before .before .before .before .before .before .pre .1) (c .before .before .before .before .before .before .before .before .before .before .if1 .left) (c .before .before .before .before .before .before .before .before .if2 .left) _ _ (rw (c .before .n .given .1, tail-is) at (c .before .before .before .before .before .resolve-node .ensures))
+returns-3 c = accepted-short (c .before .before .before .before .before .before .before .before .before .before .before .before .before .before .before .args .ds) (c .before .before .before .before .before .before .before .before .before .before .before .before .before .before .before .args .s .now) (c .before .before .before .before .before .before .before .before .before .before .before .before .before .before .before .args .d .now) (c .before .before .before .before .before .before .before .before .before .before .before .before .before .before .before .pre .0) (c .before .before .before .before .before .before .before .before .before .before .before .before .before .before .before .pre .1) (c .before .before .before .before .before .before .before .before .before .before .if1 .left) (c .before .before .before .before .before .before .before .before .if2 .left) _ _ (rw (c .before .n .given .1, part-to-end) at (c .before .before .before .before .before .resolve-node .ensures))
 
 same-length-2 : tie.Need-same-length-2
 same-length-2 c = search needs
 
 returns-4 : tie.Need-returns-4
-returns-4 c = refused-short (c .before .before .before .before .before .before .before .before .before .before .before .before .before .before .args .ds) (c .before .before .before .before .before .before .before .before .before .before .before .before .before .before .args .s .now) (c .before .before .before .before .before .before .before .before .before .before .before .before .before .before .args .d .now) (c .before .before .before .before .before .before .before .before .before .before .before .before .before .before .pre .0) (c .before .before .before .before .before .before .before .before .before .before .before .before .before .before .pre .1) (c .before .before .before .before .before .before .before .before .before .if1 .left) (c .before .before .before .before .before .before .before .if2 .left) _ _ (rw (c .enum-told .given .1, tail-is) at (c .before .before .before .before .resolve-node .ensures))
+returns-4 c = refused-short (c .before .before .before .before .before .before .before .before .before .before .before .before .before .before .args .ds) (c .before .before .before .before .before .before .before .before .before .before .before .before .before .before .args .s .now) (c .before .before .before .before .before .before .before .before .before .before .before .before .before .before .args .d .now) (c .before .before .before .before .before .before .before .before .before .before .before .before .before .before .pre .0) (c .before .before .before .before .before .before .before .before .before .before .before .before .before .before .pre .1) (c .before .before .before .before .before .before .before .before .before .if1 .left) (c .before .before .before .before .before .before .before .if2 .left) _ _ (rw (c .enum-told .given .1, part-to-end) at (c .before .before .before .before .resolve-node .ensures))
 
 pub start-short-spec : {M : Type 1} → statement M
 start-short-spec =
