@@ -1,6 +1,7 @@
 // The lengths of parts of schema nodes that hold no node and are known to be there.
 use crate::leaf::leaf_check;
 use frame::Checked;
+use frame::texts_len;
 use number::read2;
 use text::content;
 use value::value_len;
@@ -50,27 +51,12 @@ fn option_text_skip(s: &[u8]) -> usize
     3 + default.len()
 }
 
-// A count and as many texts.
-fn texts_skip(s: &[u8]) -> usize
-    requires { ⌜ Reads (readList readText (now s)) ⌝ }
-    ensures { λ r. ⌜ Spans (readList readText (now (s .entry))) (now (s .entry)) r ⌝ }
-{
-    let mut left = read2(s, 0);
-    let mut at: usize = 2;
-    while 0 < left {
-        let symbol = content(&s[at..]);
-        at += 2 + symbol.len();
-        left -= 1;
-    }
-    at
-}
-
 // Symbols and default.
 pub fn enum_skip(s: &[u8]) -> usize
     requires { ⌜ Reads (readSchemaContent (readSchema 0) 12 (now s)) ⌝ }
     ensures { λ r. ⌜ Spans (readSchemaContent (readSchema 0) 12 (now (s .entry))) (now (s .entry)) r ⌝ }
 {
-    let a = texts_skip(s);
+    let a = texts_len(s);
     a + option_text_skip(&s[a..])
 }
 

@@ -1,5 +1,6 @@
 // Bytes, String, Fixed, Decimal, Uuid, Duration and Enum.
 use buffer::Answer;
+use frame::texts_len;
 ghost use mathlib.Core.Path.{_≡_};
 ghost use mathlib.Core.List.{List, _∷_, _++_};
 ghost use mathlib.Core.Bool.{true};
@@ -19,7 +20,6 @@ ghost use Rattle.frame.specs.Tree.{Value, UuidForm};
 ghost use Rattle.frame.specs.Readers.{readList};
 ghost use Rattle.frame.specs.ValueFrame.{readValue, writeText};
 ghost use Rattle.frame.specs.SchemaFrame.{readSchema};
-ghost use Rattle.frame.specs.Checks.{Spans};
 ghost use Rattle.buffer.specs.Built.{Built, Wrote};
 ghost use Rattle.types.specs.Types.{resolve-string, resolve-fixed, resolve-decimal, resolve-uuid, resolve-duration, fixedTooShort, textPoints, uuidOfBytes, parsedUuid};
 ghost use Rattle.types.specs.Contract.{encoded, onRead, onBoth, points, Holds};
@@ -326,20 +326,6 @@ fn position(s: &[u8], x: &[u8]) -> Place
         }
     };
     found
-}
-
-// How many bytes a count and that many texts take.
-fn texts_len(s: &[u8]) -> usize
-    requires { ⌜ Reads (readList readText (now s)) ⌝ }
-    ensures { λ r. ⌜ Spans (readList readText (now (s .entry))) (now (s .entry)) r ⌝ }
-{
-    let mut left = number::read2(s, 0);
-    let mut at: usize = 2;
-    while left != 0 {
-        at = at + 2 + number::read2(s, at) as usize;
-        left -= 1;
-    }
-    at
 }
 
 // An Enum with its index and symbol.

@@ -1,9 +1,10 @@
 use mathlib.Core.Path.{_≡_, ap, _∙_}
 use Prim.Native.Nat.{_-_}
 use lib.ListN.{length, length-drop}
-use Rattle.buffer.proofs.BuiltLaws.{built-small, tail-is, built-append, tail-back}
+use Rattle.buffer.proofs.BuiltLaws.{built-small, built-append, tail-back}
 use Rattle.types.specs.Contract.{points}
 use borrow.Author.Needs.{needs}
+use borrow.Rule.Slice.PartAt.{part-to-end}
 use Rattle.types.proofs.octets.append_points.Statement.{statement}
 use Rattle.types.proofs.octets.append_points.Tie as tie
 
@@ -32,7 +33,7 @@ returns : tie.Need-returns
 returns c b w =
     let k = c .before .before .before .before .before .room .result in
     let y = c .before .before .before .put-points .last .1 .1 .0 in
-    let l : length y ≡ length (c .before .before .before .before .before .before .before .before .args .out .now) - k = c .before .before .before .put-points .kept .1 .1 .0 ∙ ap length (tail-is k (c .before .before .before .before .before .before .before .before .args .out .now)) ∙ length-drop k (c .before .before .before .before .before .before .before .before .args .out .now) in
+    let l : length y ≡ length (c .before .before .before .before .before .before .before .before .args .out .now) - k = c .before .before .before .put-points .kept .1 .1 .0 ∙ ap length (part-to-end (c .before .before .before .before .before .before .before .before .args .out .now) k) ∙ length-drop k (c .before .before .before .before .before .before .before .before .args .out .now) in
     rw tail-back (built-append b (points (c .before .before .before .before .before .before .before .before .args .t .now)) (c .before .before .before .before .before .before .before .before .args .out .now) y _ _ k _ w (c .before .before .before .before .before .room .ensures) l (c .before .before .before .put-points .ensures) (c .joined .ensures))
 
 pub append-points-spec : {M : Type 1} → statement M

@@ -1,8 +1,8 @@
 use native.Mathlib.Omega.{arith}
-use Rattle.buffer.proofs.BuiltLaws.{tail-is}
 use Rattle.types.proofs.PartLaws.{holds-content}
 use Rattle.types.proofs.OctetLaws.{counted-there}
 use borrow.Author.Needs.{needs}
+use borrow.Rule.Slice.PartAt.{part-to-end}
 use Rattle.types.proofs.octets.content.Statement.{statement}
 use Rattle.types.proofs.octets.content.Tie as tie
 
@@ -16,10 +16,10 @@ part-content-end : tie.Need-part-content-end
 part-content-end c = search needs
 
 content-requires : tie.Need-content-requires
-content-requires c κs = rw tail-is (c .before .before .pre)
+content-requires c κs = rw part-to-end (c .before .before .pre)
 
 returns : tie.Need-returns
-returns c = holds-content _ _ (omega (arith, counted-there (c .before .before .before .args .v .now) (c .before .before .before .pre))) (rw tail-is at (c .content .ensures))
+returns c = holds-content _ _ (omega (arith, counted-there (c .before .before .before .args .v .now) (c .before .before .before .pre))) (rw part-to-end at (c .content .ensures))
 
 pub content-spec : {M : Type 1} → statement M
 content-spec =

@@ -1,8 +1,8 @@
 use native.Mathlib.Omega.{arith}
 use mathlib.Core.Path.{sym, _∙_}
-use Rattle.buffer.proofs.BuiltLaws.{tail-is}
 use Rattle.types.proofs.EnumLaws.{symbols-list, flag-there, no-default, default-counted, default-found, default-missing}
 use borrow.Author.Needs.{needs}
+use borrow.Rule.Slice.PartAt.{part-to-end}
 use Rattle.types.proofs.octets.enum_default.Statement.{statement}
 use Rattle.types.proofs.octets.enum_default.Tie as tie
 
@@ -28,7 +28,7 @@ part-content-end : tie.Need-part-content-end
 part-content-end c = search needs
 
 content-requires : tie.Need-content-requires
-content-requires c κs = rw tail-is (default-counted (c .before .before .before .before .before .before .args .s .now) (c .before .before .before .texts-len .result) (c .before .before .before .before .before .before .pre) (c .before .before .before .texts-len .ensures) (c .before .if1 .left))
+content-requires c κs = rw part-to-end (default-counted (c .before .before .before .before .before .before .args .s .now) (c .before .before .before .texts-len .result) (c .before .before .before .before .before .before .pre) (c .before .before .before .texts-len .ensures) (c .before .if1 .left))
 
 position-requires : tie.Need-position-requires
 position-requires c κs = symbols-list _ (c .before .before .before .before .before .before .before .pre)
@@ -46,10 +46,10 @@ same-length : tie.Need-same-length
 same-length c = search needs
 
 returns-2 : tie.Need-returns-2
-returns-2 c = default-found (c .before .before .before .before .before .before .before .before .before .before .before .before .before .before .before .args .s .now) (c .before .before .before .before .before .before .before .before .before .before .before .before .texts-len .result) (c .before .before .before .before .before .before .before .before .before .before .before .before .before .before .before .pre) (c .before .before .before .before .before .before .before .before .before .before .before .before .texts-len .ensures) (c .before .before .before .before .before .before .before .before .before .before .if1 .left) _ _ (rw tail-is at (c .before .before .before .before .before .before .before .before .content .ensures .0)) _ _ _ (sym (c .before .before .before .before .before .i .given .1) ∙ c .before .before .before .before .before .before .before .position .ensures) (c .before .before .put-enum .ensures)
+returns-2 c = default-found (c .before .before .before .before .before .before .before .before .before .before .before .before .before .before .before .args .s .now) (c .before .before .before .before .before .before .before .before .before .before .before .before .texts-len .result) (c .before .before .before .before .before .before .before .before .before .before .before .before .before .before .before .pre) (c .before .before .before .before .before .before .before .before .before .before .before .before .texts-len .ensures) (c .before .before .before .before .before .before .before .before .before .before .if1 .left) _ _ (rw part-to-end at (c .before .before .before .before .before .before .before .before .content .ensures .0)) _ _ _ (sym (c .before .before .before .before .before .i .given .1) ∙ c .before .before .before .before .before .before .before .position .ensures) (c .before .before .put-enum .ensures)
 
 returns-3 : tie.Need-returns-3
-returns-3 c = default-missing (c .before .before .before .before .before .before .before .before .before .before .args .s .now) (c .before .before .before .before .before .before .before .texts-len .result) (c .before .before .before .before .before .before .before .before .before .before .pre) (c .before .before .before .before .before .before .before .texts-len .ensures) (c .before .before .before .before .before .if1 .left) _ _ (rw tail-is at (c .before .before .before .content .ensures .0)) _ (sym (c .enum-told .given .1) ∙ c .before .before .position .ensures)
+returns-3 c = default-missing (c .before .before .before .before .before .before .before .before .before .before .args .s .now) (c .before .before .before .before .before .before .before .texts-len .result) (c .before .before .before .before .before .before .before .before .before .before .pre) (c .before .before .before .before .before .before .before .texts-len .ensures) (c .before .before .before .before .before .if1 .left) _ _ (rw part-to-end at (c .before .before .before .content .ensures .0)) _ (sym (c .enum-told .given .1) ∙ c .before .before .position .ensures)
 
 pub enum-default-spec : {M : Type 1} → statement M
 enum-default-spec =

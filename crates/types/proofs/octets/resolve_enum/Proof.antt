@@ -2,10 +2,10 @@ use native.Mathlib.Omega.{arith}
 use Rattle.number.proofs.Laws.{getD-allBytes}
 use Rattle.frame.proofs.ValueNodes.{value-there}
 use Rattle.frame.proofs.SchemaNodes.{schema-there}
-use Rattle.buffer.proofs.BuiltLaws.{tail-is}
 use Rattle.types.proofs.PartLaws.{content-String, text-reads-counted, text-node}
 use Rattle.types.proofs.EnumLaws.{schema-symbols, enum-way, enum-other, string-symbol, enum-symbol, symbol-there, symbol-counted, symbol-node}
 use borrow.Author.Needs.{needs}
+use borrow.Rule.Slice.PartAt.{part-to-end}
 use Rattle.types.proofs.octets.resolve_enum.Statement.{statement}
 use Rattle.types.proofs.octets.resolve_enum.Tie as tie
 
@@ -31,16 +31,16 @@ part-content-end : tie.Need-part-content-end
 part-content-end c = search needs
 
 content-requires : tie.Need-content-requires
-content-requires c κs = rw tail-is (symbol-counted (c .before .before .before .before .before .before .before .args .depth) (c .before .before .before .before .before .before .before .args .v .now) (c .before .before .before .before .before .before .before .pre .2) (c .before .before .if1 .taken))
+content-requires c κs = rw part-to-end (symbol-counted (c .before .before .before .before .before .before .before .args .depth) (c .before .before .before .before .before .before .before .args .v .now) (c .before .before .before .before .before .before .before .pre .2) (c .before .before .if1 .taken))
 
 enum-of-requires : tie.Need-enum-of-requires
-enum-of-requires c κs = (rw tail-is (schema-symbols (c .before .before .before .before .before .before .before .before .before .args .ds) (c .before .before .before .before .before .before .before .before .before .args .s .now) (c .before .before .before .before .before .before .before .before .before .pre .0) (c .before .before .before .before .before .before .before .before .before .pre .1)), c .before .content .ensures .1 .1)
+enum-of-requires c κs = (rw part-to-end (schema-symbols (c .before .before .before .before .before .before .before .before .before .args .ds) (c .before .before .before .before .before .before .before .before .before .args .s .now) (c .before .before .before .before .before .before .before .before .before .pre .0) (c .before .before .before .before .before .before .before .before .before .pre .1)), c .before .content .ensures .1 .1)
 
 same-length : tie.Need-same-length
 same-length c = search needs
 
 returns : tie.Need-returns
-returns c = enum-way (c .before .before .before .before .before .before .before .before .before .before .before .before .args .ds) (c .before .before .before .before .before .before .before .before .before .before .before .before .args .s .now) (c .before .before .before .before .before .before .before .before .before .before .before .before .pre .0) (c .before .before .before .before .before .before .before .before .before .before .before .before .pre .1) (c .before .before .before .before .before .before .before .before .before .before .before .before .args .depth) (c .before .before .before .before .before .before .before .before .before .before .before .before .args .v .now) _ _ (symbol-node (c .before .before .before .before .before .before .before .before .before .before .before .before .args .depth) (c .before .before .before .before .before .before .before .before .before .before .before .before .args .v .now) (c .before .before .before .before .before .before .before .before .before .before .before .before .pre .2) (c .before .before .before .before .before .before .before .if1 .taken) _ _ (rw tail-is at (c .before .before .before .before .content .ensures .0))) _ _ _ (enum-symbol _ _) (rw tail-is at (c .before .before .enum-of .ensures))
+returns c = enum-way (c .before .before .before .before .before .before .before .before .before .before .before .before .args .ds) (c .before .before .before .before .before .before .before .before .before .before .before .before .args .s .now) (c .before .before .before .before .before .before .before .before .before .before .before .before .pre .0) (c .before .before .before .before .before .before .before .before .before .before .before .before .pre .1) (c .before .before .before .before .before .before .before .before .before .before .before .before .args .depth) (c .before .before .before .before .before .before .before .before .before .before .before .before .args .v .now) _ _ (symbol-node (c .before .before .before .before .before .before .before .before .before .before .before .before .args .depth) (c .before .before .before .before .before .before .before .before .before .before .before .before .args .v .now) (c .before .before .before .before .before .before .before .before .before .before .before .before .pre .2) (c .before .before .before .before .before .before .before .if1 .taken) _ _ (rw part-to-end at (c .before .before .before .before .content .ensures .0))) _ _ _ (enum-symbol _ _) (rw part-to-end at (c .before .before .enum-of .ensures))
 
 shared-slice-read-if2 : tie.Need-shared-slice-read-if2
 shared-slice-read-if2 c = value-there _ _ (c .before .before .before .before .before .before .pre .2) .1
@@ -58,13 +58,13 @@ content-requires-2 : tie.Need-content-requires-2
 content-requires-2 c κs = text-reads-counted _ _ (c .before .before .before .before .before .before .before .before .pre .2) 7 content-String (c .before .if2 .taken)
 
 enum-of-requires-2 : tie.Need-enum-of-requires-2
-enum-of-requires-2 c κs = (rw tail-is (schema-symbols (c .before .before .before .before .before .before .before .before .before .before .args .ds) (c .before .before .before .before .before .before .before .before .before .before .args .s .now) (c .before .before .before .before .before .before .before .before .before .before .pre .0) (c .before .before .before .before .before .before .before .before .before .before .pre .1)), c .before .content2 .ensures .short)
+enum-of-requires-2 c κs = (rw part-to-end (schema-symbols (c .before .before .before .before .before .before .before .before .before .before .args .ds) (c .before .before .before .before .before .before .before .before .before .before .args .s .now) (c .before .before .before .before .before .before .before .before .before .before .pre .0) (c .before .before .before .before .before .before .before .before .before .before .pre .1)), c .before .content2 .ensures .short)
 
 same-length-2 : tie.Need-same-length-2
 same-length-2 c = search needs
 
 returns-2 : tie.Need-returns-2
-returns-2 c = enum-way (c .before .before .before .before .before .before .before .before .before .before .before .before .before .args .ds) (c .before .before .before .before .before .before .before .before .before .before .before .before .before .args .s .now) (c .before .before .before .before .before .before .before .before .before .before .before .before .before .pre .0) (c .before .before .before .before .before .before .before .before .before .before .before .before .before .pre .1) (c .before .before .before .before .before .before .before .before .before .before .before .before .before .args .depth) (c .before .before .before .before .before .before .before .before .before .before .before .before .before .args .v .now) _ _ (text-node _ _ (c .before .before .before .before .before .before .before .before .before .before .before .before .before .pre .2) 7 _ content-String (c .before .before .before .before .before .before .if2 .taken) (c .before .before .before .before .content2 .ensures) .0) _ _ _ (string-symbol _) (rw tail-is at (c .before .before .enum-of2 .ensures))
+returns-2 c = enum-way (c .before .before .before .before .before .before .before .before .before .before .before .before .before .args .ds) (c .before .before .before .before .before .before .before .before .before .before .before .before .before .args .s .now) (c .before .before .before .before .before .before .before .before .before .before .before .before .before .pre .0) (c .before .before .before .before .before .before .before .before .before .before .before .before .before .pre .1) (c .before .before .before .before .before .before .before .before .before .before .before .before .before .args .depth) (c .before .before .before .before .before .before .before .before .before .before .before .before .before .args .v .now) _ _ (text-node _ _ (c .before .before .before .before .before .before .before .before .before .before .before .before .before .pre .2) 7 _ content-String (c .before .before .before .before .before .before .if2 .taken) (c .before .before .before .before .content2 .ensures) .0) _ _ _ (string-symbol _) (rw part-to-end at (c .before .before .enum-of2 .ensures))
 
 returns-3 : tie.Need-returns-3
 returns-3 c = enum-other (c .before .before .before .before .before .before .before .args .ds) (c .before .before .before .before .before .before .before .args .s .now) (c .before .before .before .before .before .before .before .pre .0) (c .before .before .before .before .before .before .before .pre .1) (c .before .before .before .before .before .before .before .args .depth) (c .before .before .before .before .before .before .before .args .v .now) _ (c .before .before .before .before .before .before .before .pre .2) (getD-allBytes (c .before .before .before .before .before .before .before .args .v .now) (λ i. omega (arith, c .before .before .before .before .before .shared-slice-known2 .given i))) (c .before .before .if1 .left) (c .if2 .left)
