@@ -1,7 +1,7 @@
 use borrow.Author.Needs.{needs}
+use borrow.Rule.Slice.PartAt.{part-to-end}
 use mathlib.Core.Path.{refl}
 use native.Mathlib.Omega.{arith}
-use Rattle.frame.proofs.Reading.{suffix}
 use Rattle.frame.proofs.ValueNodes.{value-there}
 use Rattle.find.specs.Latest.{foundAt}
 use Rattle.find.proofs.FindLaws.{Finding, keyed-length, finding-start, finding-name, finding-inside, finding-value, finding-step, finding-end}
@@ -45,7 +45,7 @@ part-content-end : tie.Need-part-content-end Inv-loop μ-loop
 part-content-end c = search needs
 
 content-requires : tie.Need-content-requires Inv-loop μ-loop
-content-requires c κs = rw suffix (finding-name _ _ _ _ _ _ (c .before .before .loop .inv) (c .before .before .before .before .before .before .pre .0) (c .before .loop-test .taken))
+content-requires c κs = rw part-to-end (finding-name _ _ _ _ _ _ (c .before .before .loop .inv) (c .before .before .before .before .before .before .pre .0) (c .before .loop-test .taken))
 
 add-at : tie.Need-add-at Inv-loop μ-loop
 add-at c = search needs
@@ -60,10 +60,10 @@ later-requires : tie.Need-later-requires Inv-loop μ-loop
 later-requires c κs = omega arith
 
 sub-reach : tie.Need-sub-reach Inv-loop μ-loop
-sub-reach c = finding-inside _ _ _ _ _ _ (c .before .before .before .before .before .loop .inv) (c .before .before .before .before .before .before .before .before .before .pre .0) (c .before .before .before .before .loop-test .taken) _ (rw suffix at (c .before .before .content .ensures .0)) (rw suffix at (c .before .before .content .ensures .1 .0))
+sub-reach c = finding-inside _ _ _ _ _ _ (c .before .before .before .before .before .loop .inv) (c .before .before .before .before .before .before .before .before .before .pre .0) (c .before .before .before .before .loop-test .taken) _ (rw part-to-end at (c .before .before .content .ensures .0)) (rw part-to-end at (c .before .before .content .ensures .1 .0))
 
 part-reach-start : tie.Need-part-reach-start Inv-loop μ-loop
-part-reach-start c = finding-inside _ _ _ _ _ _ (c .before .before .before .before .before .loop .inv) (c .before .before .before .before .before .before .before .before .before .pre .0) (c .before .before .before .before .loop-test .taken) _ (rw suffix at (c .before .before .content .ensures .0)) (rw suffix at (c .before .before .content .ensures .1 .0))
+part-reach-start c = finding-inside _ _ _ _ _ _ (c .before .before .before .before .before .loop .inv) (c .before .before .before .before .before .before .before .before .before .pre .0) (c .before .before .before .before .loop-test .taken) _ (rw part-to-end at (c .before .before .content .ensures .0)) (rw part-to-end at (c .before .before .content .ensures .1 .0))
 
 part-reach-end : tie.Need-part-reach-end Inv-loop μ-loop
 part-reach-end c = search needs
@@ -72,11 +72,11 @@ sub-reach-2 : tie.Need-sub-reach-2 Inv-loop μ-loop
 sub-reach-2 c = let h = value-there _ _ (c .before .before .before .before .before .before .before .before .before .before .pre .0) .0 in omega arith
 
 reach-requires : tie.Need-reach-requires Inv-loop μ-loop
-reach-requires c κs = rw suffix (finding-value _ _ _ _ _ _ (c .before .before .before .before .before .before .loop .inv) (c .before .before .before .before .before .before .before .before .before .before .pre .0) (c .before .before .before .before .before .loop-test .taken) _ (rw suffix at (c .before .before .before .content .ensures .0)) (rw suffix at (c .before .before .before .content .ensures .1 .0)))
+reach-requires c κs = rw part-to-end (finding-value _ _ _ _ _ _ (c .before .before .before .before .before .before .loop .inv) (c .before .before .before .before .before .before .before .before .before .before .pre .0) (c .before .before .before .before .before .loop-test .taken) _ (rw part-to-end at (c .before .before .before .content .ensures .0)) (rw part-to-end at (c .before .before .before .content .ensures .1 .0)))
 
 add-at-3 : tie.Need-add-at-3 Inv-loop μ-loop
 add-at-3 c =
-    let w = finding-step _ _ _ _ _ _ (c .before .before .before .before .before .before .before .loop .inv) (c .before .before .before .before .before .before .before .before .before .before .before .pre .0) (c .before .before .before .before .before .before .loop-test .taken) _ (rw suffix at (c .before .before .before .before .content .ensures .0)) (rw suffix at (c .before .before .before .before .content .ensures .1 .0)) _ _ refl (rw suffix at (c .reach .ensures .0)) (rw suffix at (c .reach .ensures .1)) in
+    let w = finding-step _ _ _ _ _ _ (c .before .before .before .before .before .before .before .loop .inv) (c .before .before .before .before .before .before .before .before .before .before .before .pre .0) (c .before .before .before .before .before .before .loop-test .taken) _ (rw part-to-end at (c .before .before .before .before .content .ensures .0)) (rw part-to-end at (c .before .before .before .before .content .ensures .1 .0)) _ _ refl (rw part-to-end at (c .reach .ensures .0)) (rw part-to-end at (c .reach .ensures .1)) in
     omega (arith, w .inside)
 
 sub-left : tie.Need-sub-left Inv-loop μ-loop
@@ -86,7 +86,7 @@ loop-less : tie.Need-loop-less Inv-loop μ-loop
 loop-less c = search needs
 
 loop-again : tie.Need-loop-again Inv-loop μ-loop
-loop-again c = rw (c .before .before .later .ensures) (finding-step _ _ _ _ _ _ (c .before .before .before .before .before .before .before .loop .inv) (c .before .before .before .before .before .before .before .before .before .before .before .pre .0) (c .before .before .before .before .before .before .loop-test .taken) _ (rw suffix at (c .before .before .before .before .content .ensures .0)) (rw suffix at (c .before .before .before .before .content .ensures .1 .0)) _ _ (c .before .before .before .same .ensures) (rw suffix at (c .reach .ensures .0)) (rw suffix at (c .reach .ensures .1)))
+loop-again c = rw (c .before .before .later .ensures) (finding-step _ _ _ _ _ _ (c .before .before .before .before .before .before .before .loop .inv) (c .before .before .before .before .before .before .before .before .before .before .before .pre .0) (c .before .before .before .before .before .before .loop-test .taken) _ (rw part-to-end at (c .before .before .before .before .content .ensures .0)) (rw part-to-end at (c .before .before .before .before .content .ensures .1 .0)) _ _ (c .before .before .before .same .ensures) (rw part-to-end at (c .reach .ensures .0)) (rw part-to-end at (c .reach .ensures .1)))
 
 find-at-requires : tie.Need-find-at-requires Inv-loop μ-loop
 find-at-requires c κs = search needs
