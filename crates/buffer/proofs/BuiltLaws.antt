@@ -5,7 +5,7 @@ use mathlib.Core.List.{List, [], _∷_, _++_, append-assoc, append-nil}
 use native.Mathlib.Omega.{arith}
 use native.Mathlib.Numerals.{add-one}
 use lib.ListN.{length, getD, take, drop, set, length-drop, length-append, length-take, drop-of-length-le}
-use lib.Seq.{drop-cons, take-suc, set-at, take-length, length-take-le, take-all, take-at, take-append-add}
+use lib.Seq.{drop-cons, take-suc, set-at, take-length, length-take-le, take-at, take-append-add}
 use Rattle.base.specs.Base.{Result, ok, no}
 use Rattle.buffer.specs.Built.{Built, Wrote}
 use Rattle.buffer.specs.declared.Answer.{Answer}
@@ -24,10 +24,6 @@ copy-end t o o' i e h g =
     e ∙ ap (λ k. take k t ++ drop k o) p ∙ ap (λ x. x ++ drop (length t) o) (take-length t)
 
 -- ---- parts
-
--- a tail of a slice, as a lent part shows it
-pub tail-is : (k : ℕ) (s : List ℕ) → take (length s - k) (drop k s) ≡ drop k s
-tail-is k s = take-all (length s - k) (drop k s) (omega (arith, length-drop k s))
 
 -- what comes back of a tail that was lent
 pub tail-back : (k : ℕ) (o y : List ℕ) → take k o ++ (y ++ drop (length o - k) (drop k o)) ≡ take k o ++ y

@@ -10,7 +10,8 @@ use lib.Dec.{leb}
 use lib.ListN.{length, take, drop, set, replicate, length-append, length-drop, length-replicate, replicate-append-replicate, drop-of-length-le, getD}
 use lib.Seq.{drop-cons, length-take-le, set-at, take-at}
 use borrow.Author.Tests.{leb-true, leb-false}
-use Rattle.buffer.proofs.BuiltLaws.{tail-is, tail-back}
+use borrow.Rule.Slice.PartAt.{part-to-end}
+use Rattle.buffer.proofs.BuiltLaws.{tail-back}
 
 -- ---- filling
 
@@ -33,7 +34,7 @@ clear-halves b x y i h e g =
     let lt : length (take i b) ≡ i = length-take-le i b h in
     let lx : length x ≡ i = ap length e ∙ length-replicate (length (take i b)) 0 ∙ lt in
     let lo : length o ≡ length b = omega (arith, length-append x (drop i b), length-drop i b, lx, h) in
-    let n : length (take (length o - i) (drop i o)) ≡ length b - i = ap length (tail-is i o) ∙ omega (arith, length-drop i o, lo) in
+    let n : length (take (length o - i) (drop i o)) ≡ length b - i = ap length (part-to-end o i) ∙ omega (arith, length-drop i o, lo) in
     let front : take i o ≡ replicate i 0 = take-at x (drop i b) i lx ∙ e ∙ ap (λ (j : ℕ). replicate j 0) lt in
     let back : y ≡ replicate (length b - i) 0 = g ∙ ap (λ (j : ℕ). replicate j 0) n in
     let all : i + (length b - i) ≡ length b = omega (arith, h) in

@@ -8,6 +8,7 @@ pub mod Lengths
 pub mod Reading
 pub mod Measuring
 pub mod Counting
+pub mod Texts
 pub mod Whole
 pub mod ValueNodes
 pub mod SchemaNodes

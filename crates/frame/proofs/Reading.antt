@@ -6,8 +6,8 @@ use mathlib.Core.Option.{Option, none, some}
 use mathlib.Core.Bool.{Bool, true, false}
 use native.Mathlib.Omega.{arith}
 use lib.Dec.{leb, eqb}
-use lib.ListN.{length, getD, take, drop, length-drop}
-use lib.Seq.{take-all, drop-drop}
+use lib.ListN.{length, getD, drop}
+use lib.Seq.{drop-drop}
 use borrow.Author.Tests.{le-leb, lt-leb, eqb-true, eqb-false, leb-true, leb-false}
 use Rattle.base.specs.Base.{if_then_else_}
 use Rattle.number.specs.Number.{numberAt}
@@ -16,10 +16,6 @@ use Rattle.text.specs.Read.{Read, _>>=_, readBytes, readNumber}
 use Rattle.text.specs.Measured.{Reads}
 use Rattle.text.proofs.ReadLaws.{readBytes-none, readNumber-some, readNumber-none}
 use Rattle.frame.specs.Readers.{readFlag, readOption}
-
--- the part of a slice from n on, as code lends it
-pub suffix : (n : ℕ) (s : List ℕ) → take (length s - n) (drop n s) ≡ drop n s
-suffix n s = take-all (length s - n) (drop n s) (omega (arith, length-drop n s))
 
 -- ---- what was read is one thing
 

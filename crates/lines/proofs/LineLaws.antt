@@ -7,9 +7,10 @@ use mathlib.Core.Logic.{_⊎_, ⊎-elim}
 use mathlib.Core.Bool.{Bool, true, false}
 use native.Mathlib.Omega.{arith}
 use native.Mathlib.Numerals.{add-one}
+use borrow.Rule.Slice.PartAt.{part-to-end}
 use lib.Dec.{ltb}
 use lib.ListN.{length, getD, take, drop, set, length-append, length-drop, drop-of-length-le, take-append-drop}
-use lib.Seq.{take-all, take-at, drop-at, drop-cons, drop-drop, set-at, length-take-le}
+use lib.Seq.{take-at, drop-at, drop-cons, drop-drop, set-at, length-take-le}
 use Rattle.base.specs.Base.{if_then_else_, ok, no}
 use Rattle.text.specs.Text.{Text, ascii}
 use Rattle.uuid.specs.Uuid.{hexBytes}
@@ -57,9 +58,8 @@ module _ (h o y : List ℕ) (n : ℕ) (l : n ≡ length h) (g : n + 3 ≤ length
 
   lent-is : lent o y ≡ take 2 o ++ (h ++ drop n (drop 2 o))
   lent-is =
-      let t : take (length o - 2) (drop 2 o) ≡ drop 2 o = take-all (length o - 2) (drop 2 o) (omega (arith, length-drop 2 o)) in
       let d : drop (length o - 2) (drop 2 o) ≡ [] = drop-of-length-le (drop 2 o) {i = length o - 2} (omega (arith, length-drop 2 o)) in
-      rw (w, t, d, append-nil)
+      rw (w, part-to-end, d, append-nil)
 
   pub line-is : (x y' e : ℕ) (o' : List ℕ) → o' ≡ (x ∷ y' ∷ []) ++ take n (drop 2 (lent o y)) ++ (e ∷ []) ++ drop (n + 3) (lent o y)
       → o' ≡ ((x ∷ y' ∷ []) ++ h ++ (e ∷ [])) ++ drop (n + 3) o

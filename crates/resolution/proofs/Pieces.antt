@@ -8,6 +8,7 @@ use native.Mathlib.Omega.{arith}
 use lib.Dec.{leb}
 use lib.ListN.{length, take, drop, length-drop}
 use lib.Seq.{drop-drop}
+use borrow.Rule.Slice.PartAt.{part-to-end}
 use borrow.Author.Tests.{leb-true, leb-false}
 use Rattle.base.specs.Base.{Result, ok, no, after}
 use Rattle.text.specs.Read.{Read, _>>=_}
@@ -19,7 +20,7 @@ use Rattle.frame.proofs.Measuring.{spans-le, spans-rest}
 use Rattle.frame.proofs.Counting.{many-zero, Split, many-split}
 use Rattle.types.specs.Contract.{onRead, onBoth}
 use Rattle.buffer.specs.Built.{Built, Wrote}
-use Rattle.buffer.proofs.BuiltLaws.{tail-is, tail-back, length-tail-back, built-small, built-append}
+use Rattle.buffer.proofs.BuiltLaws.{tail-back, length-tail-back, built-small, built-append}
 use Rattle.buffer.specs.declared.Answer.{Answer}
 use Rattle.buffer.specs.declared.Answer.the-variants.{Accepted, Refused}
 
@@ -113,7 +114,7 @@ last-part (ok b) = ap ok (sym (append-nil b))
 
 -- how many bytes a lent tail has
 lent : (k : ℕ) (y z : List ℕ) → length z ≡ length (take (length y - k) (drop k y)) → length z ≡ length y - k
-lent k y z l = l ∙ ap length (tail-is k y) ∙ length-drop k y
+lent k y z l = l ∙ ap length (part-to-end y k) ∙ length-drop k y
 
 -- bytes, and then the rest in the tail
 pub wrote-last : (whole x : Result (List ℕ)) (p y z : List ℕ) (n m k r : ℕ) → Built p y n → whole ≡ front p x → k ≡ min n (length y) → length z ≡ length (take (length y - k) (drop k y))

@@ -1,14 +1,15 @@
 -- A record's field names, each held to the earlier ones: a name whose slot none of them took is new. Assumes nothing.
 use Prim.Native.Nat.{ℕ, zero, suc, _+_, _-_, _≤_, _<_}
 use mathlib.Core.Path.{_≡_, refl, sym, ap, _∙_, subst}
-use mathlib.Core.List.{List, [], _∷_, _++_, append-assoc}
+use mathlib.Core.List.{List, [], _∷_, _++_, append-assoc, append-nil}
 use mathlib.Core.Option.{some}
-use mathlib.Core.Bool.{Bool, true, false, _&&_, _||_, not}
+use mathlib.Core.Bool.{Bool, true, false, _&&_, _||_, not, or-true, or-assoc, and-false, and-eq-true-iff}
+use mathlib.Mathlib.Data.Bool.Basic.{or-eq-false-eq-eq-false-and-eq-false}
 use native.Mathlib.Omega.{arith}
 use lib.Dec.{T, eqb}
 use lib.ListN.{length, length-set, getD, set, drop}
 use lib.Seq.{drop-drop, getD-set-same, getD-set-other}
-use borrow.Author.Tests.{eqb-true, eqb-false, eq-eqb}
+use borrow.Author.Tests.{eqb-true, eqb-false, eq-eqb, not-true}
 use Rattle.base.specs.Base.{if_then_else_}
 use Rattle.text.specs.Text.{Text, same}
 use Rattle.text.specs.Read.{Read, _>>=_, readCounted}
@@ -56,19 +57,11 @@ mark-there b v = go (eqb b 0) (eqb b v)
     go true y = own
     go false true = own
     go false false = or-true (eqb 255 v)
-      where
-        or-true : (z : Bool) → z || true ≡ true
-        or-true true = refl
-        or-true false = refl
 
 mark-stays : (b v w : ℕ) → (w ≡ 0 → ⊥) → mayBe b w ≡ true → mayBe (marked b v) w ≡ true
 unfolding mayBe marked
 mark-stays b v w n e = go (eqb b 0) refl (eqb b v) refl
   where
-    or-true : (z : Bool) → z || true ≡ true
-    or-true true = refl
-    or-true false = refl
-
     zero-not : (x y : Bool) → eqb b w ≡ x → eqb b 255 ≡ y → x || y ≡ true → b ≡ 0 → ⊥
     zero-not true y p q h z = n (sym (eqb-true b w p) ∙ z)
     zero-not false true p q h z = omega (arith, eqb-true b 255 q)
@@ -131,38 +124,19 @@ module _ (key : Text → ℕ) (t : List ℕ) where
 has-append : (n : Text) (xs ys : List Field) → seeks n (xs ++ ys) ≡ seeks n xs || seeks n ys
 unfolding hasField fieldsOf
 has-append n [] ys = refl
-has-append n (x ∷ xs) ys = ap (λ b. same (x .0) n || b) (has-append n xs ys) ∙ or-assoc (same (x .0) n) (seeks n xs) (seeks n ys)
-  where
-    or-assoc : (a b c : Bool) → a || (b || c) ≡ (a || b) || c
-    or-assoc true b c = refl
-    or-assoc false b c = refl
-
-and-first : (a b : Bool) → a && b ≡ true → a ≡ true
-and-first true b e = refl
-and-first false b e = e
-
-and-second : (a b : Bool) → a && b ≡ true → b ≡ true
-and-second true b e = e
-and-second false b e = let z : _≡_ {A = ℕ} 0 1 = cc in absurd (omega arith)
-
-or-none : (a b : Bool) → a || b ≡ false → (a ≡ false) × (b ≡ false)
-or-none true b e = let z : _≡_ {A = ℕ} 0 1 = cc in absurd (omega arith)
-or-none false b e = (refl, e)
-
-pub not-true : (a : Bool) → not a ≡ true → a ≡ false
-not-true true e = let z : _≡_ {A = ℕ} 0 1 = cc in absurd (omega arith)
-not-true false e = refl
+has-append n (x ∷ xs) ys = ap (λ b. same (x .0) n || b) (has-append n xs ys) ∙ sym (or-assoc (same (x .0) n) (seeks n xs) (seeks n ys))
 
 -- one more that none of them has
 pub differ-more : (xs : List Field) (f : Field) → namesDiffer xs ≡ true → seeks (f .0) xs ≡ false → namesDiffer (xs ++ (f ∷ [])) ≡ true
 unfolding namesDiffer hasField fieldsOf
 differ-more [] f d n = refl
 differ-more (x ∷ xs) f d n =
-    let p = or-none (same (x .0) (f .0)) (seeks (f .0) xs) n in
-    let a : seeks (x .0) xs ≡ false = not-true (seeks (x .0) xs) (and-first (not (seeks (x .0) xs)) (namesDiffer xs) d) in
+    let p = or-eq-false-eq-eq-false-and-eq-false (same (x .0) (f .0)) (seeks (f .0) xs) .0 n in
+    let q = and-eq-true-iff (not (seeks (x .0) xs)) (namesDiffer xs) .0 d in
+    let a : seeks (x .0) xs ≡ false = not-true (seeks (x .0) xs) (q .0) in
     let b : same (f .0) (x .0) ≡ false = same-sym (x .0) (f .0) false (p .0) in
     let h : seeks (x .0) (xs ++ (f ∷ [])) ≡ false = has-append (x .0) xs (f ∷ []) ∙ ap (λ y. y || (same (f .0) (x .0) || false)) a ∙ ap (λ y. y || false) b in
-    ap (λ y. not y && namesDiffer (xs ++ (f ∷ []))) h ∙ differ-more xs f (and-second (not (seeks (x .0) xs)) (namesDiffer xs) d) (p .1)
+    ap (λ y. not y && namesDiffer (xs ++ (f ∷ []))) h ∙ differ-more xs f (q .1) (p .1)
 
 -- one that an earlier one has
 pub differ-not : (xs : List Field) (f : Field) (ys : List Field) → seeks (f .0) xs ≡ true → namesDiffer (xs ++ (f ∷ ys)) ≡ false
@@ -170,14 +144,6 @@ unfolding namesDiffer hasField fieldsOf
 differ-not [] f ys n = let z : _≡_ {A = ℕ} 0 1 = cc in absurd (omega arith)
 differ-not (x ∷ xs) f ys n = go (same (x .0) (f .0)) refl (λ h. differ-not xs f ys h)
   where
-    or-true : (a : Bool) → a || true ≡ true
-    or-true true = refl
-    or-true false = refl
-
-    and-false : (a : Bool) → a && false ≡ false
-    and-false true = refl
-    and-false false = refl
-
     go : (b : Bool) → same (x .0) (f .0) ≡ b → (seeks (f .0) xs ≡ true → namesDiffer (xs ++ (f ∷ ys)) ≡ false) → namesDiffer ((x ∷ xs) ++ (f ∷ ys)) ≡ false
     go true e later =
         let h : seeks (x .0) (xs ++ (f ∷ ys)) ≡ true = has-append (x .0) xs (f ∷ ys) ∙ ap (λ y. seeks (x .0) xs || (y || seeks (x .0) ys)) (same-sym (x .0) (f .0) true e) ∙ or-true (seeks (x .0) xs) in
@@ -239,10 +205,6 @@ module _ (node : List ℕ → Read Schema) (low high : Text → ℕ) (s : List �
     pub looking-end : left ≤ 0 → (fs : List Field) (u : List ℕ) → readList (readField node) s ≡ some (fs, u) → true ≡ namesDiffer fs
     looking-end h fs u e =
         sym (ap namesDiffer (left-end _ (readField node) (λ l. l) (λ l. w .before ++ l) s at left (w .rest) h fs u e ∙ append-nil (w .before)) ∙ w .differ)
-      where
-        append-nil : (l : List Field) → l ++ [] ≡ l
-        append-nil [] = refl
-        append-nil (x ∷ l) = ap (λ y. x ∷ y) (append-nil l)
 
     module _ (h : 0 < left) (name : Text) (v : List ℕ) (g : readCounted (drop at s) ≡ some (name, v)) (has : Bool)
         (tells : (fs : List Field) (u : List ℕ) → readMany (readField node) done (drop 2 s) ≡ some (fs, u) → has ≡ seeks name fs) where

@@ -2,11 +2,12 @@
 use Prim.Native.Nat.{ℕ, zero, suc, _+_, _-_, _*_, _/_, _≤_, _<_}
 use mathlib.Core.Path.{_≡_, refl, ap, sym, _∙_, subst}
 use mathlib.Core.List.{List, [], _∷_}
-use mathlib.Core.Bool.{Bool, true, false, not, _&&_}
+use mathlib.Core.Bool.{Bool, true, false, not, _&&_, and-assoc, and-comm, and-true, and-eq-true-iff}
 use native.Mathlib.Nat.{zero-mul, zero-add, add-suc, suc-add, suc-mul}
 use native.Mathlib.Numerals.{add-one}
 use native.Mathlib.Omega.{arith}
 use borrow.Author.Tests.{leb-true, leb-false, le-leb, lt-leb, ne-eqb}
+use borrow.Rule.Slice.PartAt.{part-to-end}
 use lib.Bits.{bitAnd, bitOr, or-lt, or-add-and, and-le-l, and-le-r, and-block}
 use lib.Dec.{T, leb, eqb, eqb·suc-zero}
 use lib.ListN.{length, getD, take, drop, length-drop, drop-of-length-le}
@@ -18,14 +19,6 @@ use Rattle.utf8.proofs.Bytes.{below, every-byte}
 use Rattle.utf8.proofs.CodePoints.{leadOf-one}
 
 -- ---- passing over
-both-true : (a b : Bool) → a && b ≡ true → (a ≡ true) × (b ≡ true)
-both-true true b e = (refl, e)
-both-true false b e = let z : _≡_ {A = ℕ} 0 1 = cc in absurd (omega arith)
-
-both-assoc : (a b c : Bool) → (a && b) && c ≡ a && (b && c)
-both-assoc true b c = refl
-both-assoc false b c = refl
-
 pub one-passed : (s : List ℕ) (i : ℕ) → i < length s → getD s i 0 ≤ 0x7f → Passed s i (i + 1)
 unfolding stepOf run
 one-passed s i h p =
@@ -36,7 +29,7 @@ unfolding stepOf run allAscii
 front-passed zero s e = refl
 front-passed (suc n) [] e = refl
 front-passed (suc n) (b ∷ s) e =
-    let h = both-true (leb b 0x7f) (allAscii (take n s)) e in
+    let h = and-eq-true-iff (leb b 0x7f) (allAscii (take n s)) .0 e in
     front-passed n s (h .1) ∙ sym (ap (λ (w : Wait). run w s) (leadOf-one b (leb-true b 0x7f (h .0))))
 
 pub part-passed : (s : List ℕ) (i n : ℕ) → i + n ≤ length s → allAscii (take n (drop i s)) ≡ true → Passed s i (i + n)
@@ -54,7 +47,7 @@ unfolding allAscii
 allAscii-next zero m s = rw zero-add refl
 allAscii-next (suc n) m [] = rw (take-nil, take-nil) refl
 allAscii-next (suc n) m (b ∷ s) =
-    both-assoc (leb b 0x7f) (allAscii (take n s)) (allAscii (take m (drop n s)))
+    and-assoc (leb b 0x7f) (allAscii (take n s)) (allAscii (take m (drop n s)))
     ∙ rw suc-add (ap (λ (x : Bool). leb b 0x7f && x) (allAscii-next n m s))
 
 pub allAscii-add : (n m : ℕ) (s : List ℕ) (at : ℕ)
@@ -66,14 +59,14 @@ allAscii-drop : (n : ℕ) (s : List ℕ) → allAscii s ≡ true → allAscii (d
 unfolding allAscii
 allAscii-drop zero s e = e
 allAscii-drop (suc n) [] e = refl
-allAscii-drop (suc n) (b ∷ s) e = allAscii-drop n s (both-true (leb b 0x7f) (allAscii s) e .1)
+allAscii-drop (suc n) (b ∷ s) e = allAscii-drop n s (and-eq-true-iff (leb b 0x7f) (allAscii s) .0 e .1)
 
 allAscii-join : (n : ℕ) (s : List ℕ) → allAscii (take n s) ≡ true → allAscii (drop n s) ≡ true → allAscii s ≡ true
 unfolding allAscii
 allAscii-join zero s e f = f
 allAscii-join (suc n) [] e f = refl
 allAscii-join (suc n) (b ∷ s) e f =
-    let h = both-true (leb b 0x7f) (allAscii (take n s)) e in
+    let h = and-eq-true-iff (leb b 0x7f) (allAscii (take n s)) .0 e in
     let k : allAscii s ≡ true = allAscii-join n s (h .1) f in
     ap (λ (x : Bool). x && allAscii s) (h .0) ∙ k
 
@@ -83,8 +76,7 @@ to-end s k i h l e =
     let d : drop (i - k) (drop k s) ≡ drop i s = drop-drop (i - k) k s ∙ ap (λ (m : ℕ). drop m s) n in
     let a : allAscii (drop i s) ≡ true = subst (λ (t : List ℕ). allAscii t ≡ true) d (allAscii-drop (i - k) (drop k s) e) in
     let m : i + (length s - i) ≡ length s = omega arith in
-    let t : take (length s - i) (drop i s) ≡ drop i s = take-all (length s - i) (drop i s) (simp length-drop (omega arith)) in
-    subst (λ (j : ℕ). Passed s i j) m (part-passed s i (length s - i) (omega arith) (rw t a))
+    subst (λ (j : ℕ). Passed s i j) m (part-passed s i (length s - i) (omega arith) (rw part-to-end a))
 
 last-part : (s : List ℕ) (n : ℕ) → n ≤ length s → allAscii (take n (drop (length s - n) s)) ≡ true → allAscii (drop (length s - n) s) ≡ true
 last-part s n h e = rw (take-all n (drop (length s - n) s) (simp length-drop (omega arith))) at e
@@ -120,8 +112,8 @@ or-low a b = go (leb a 0x7f) (leb b 0x7f) refl refl
 
 three-low : (a b c : ℕ) → bitOr (bitOr a b) c ≤ 0x7f → (leb a 0x7f ≡ true) × (leb b 0x7f ≡ true) × (leb c 0x7f ≡ true)
 three-low a b c h =
-    let p = both-true (leb (bitOr a b) 0x7f) (leb c 0x7f) (sym (or-low (bitOr a b) c) ∙ le-leb (bitOr (bitOr a b) c) 0x7f h) in
-    let q = both-true (leb a 0x7f) (leb b 0x7f) (sym (or-low a b) ∙ p .0) in
+    let p = and-eq-true-iff (leb (bitOr a b) 0x7f) (leb c 0x7f) .0 (sym (or-low (bitOr a b) c) ∙ le-leb (bitOr (bitOr a b) c) 0x7f h) in
+    let q = and-eq-true-iff (leb a 0x7f) (leb b 0x7f) .0 (sym (or-low a b) ∙ p .0) in
     (q .0, q .1, p .1)
 
 few-ascii : (s : List ℕ) → 1 ≤ length s → length s ≤ 3 → bitOr (bitOr (getD s 0 0) (getD s (length s / 2) 0)) (getD s (length s - 1) 0) ≤ 0x7f → allAscii s ≡ true
@@ -142,22 +134,12 @@ pub joined-more : (s : List ℕ) (i a : ℕ) → i < length s
 unfolding allAscii
 joined-more s i a h =
     rw (drop-cons s i 0 h, add-one)
-    (ap (λ (x : Bool). x && allAscii (drop (suc i) s)) (or-low a (getD s i 0)) ∙ both-assoc (leb a 0x7f) (leb (getD s i 0) 0x7f) (allAscii (drop (suc i) s)))
-
-both-swap : (a b : Bool) → a && b ≡ b && a
-both-swap true true = refl
-both-swap true false = refl
-both-swap false true = refl
-both-swap false false = refl
-
-both-left : (a : Bool) → a && true ≡ a
-both-left true = refl
-both-left false = refl
+    (ap (λ (x : Bool). x && allAscii (drop (suc i) s)) (or-low a (getD s i 0)) ∙ and-assoc (leb a 0x7f) (leb (getD s i 0) 0x7f) (allAscii (drop (suc i) s)))
 
 pub joined-all : (s : List ℕ) (i a : ℕ) → length s ≤ i → leb a 0x7f ≡ leb a 0x7f && allAscii (drop i s)
 unfolding allAscii
 joined-all s i a h =
-    sym (both-left (leb a 0x7f)) ∙ ap (λ (l : List ℕ). leb a 0x7f && allAscii l) (sym (drop-of-length-le s {i = i} h))
+    sym (and-true (leb a 0x7f)) ∙ ap (λ (l : List ℕ). leb a 0x7f && allAscii l) (sym (drop-of-length-le s {i = i} h))
 
 -- ---- the highest bit of each byte
 abbrev highs : ℕ → ℕ
@@ -193,7 +175,7 @@ by-highs (x ∷ xs) h =
     let n = length xs in
     ap (λ (m : ℕ). eqb m 0) (and-block 8 (lowFirst xs) (highs n) x 0x80 (h 0) (omega arith))
     ∙ eqb-sum (bitAnd (lowFirst xs) (highs n)) 256 (bitAnd x 0x80) (omega arith)
-    ∙ both-swap (eqb (bitAnd (lowFirst xs) (highs n)) 0) (eqb (bitAnd x 0x80) 0)
+    ∙ and-comm (eqb (bitAnd (lowFirst xs) (highs n)) 0) (eqb (bitAnd x 0x80) 0)
     ∙ ap (λ (y : Bool). y && eqb (bitAnd (lowFirst xs) (highs n)) 0) (by-bit x (h 0))
     ∙ ap (λ (y : Bool). leb x 0x7f && y) (by-highs xs (λ i. h (suc i)))
 

@@ -6,6 +6,7 @@ use mathlib.Core.Bool.{Bool, true, false, _&&_}
 use native.Mathlib.Nat.{add-zero}
 use native.Mathlib.Omega.{arith}
 use borrow.Author.Tests.{le-leb, lt-leb}
+use borrow.Rule.Slice.PartAt.{part-to-end}
 use lib.Dec.{T, leb, le→leb, leb→le}
 use lib.ListN.{length, getD, take, drop, length-drop, drop-of-length-le}
 use lib.Seq.{drop-drop, getD-drop}
@@ -14,7 +15,6 @@ use Rattle.utf8.specs.Utf8.{Wait, Start, Tail, Bad, leadOf, rest, stepOf
 use Rattle.utf8.specs.Steps.{within, Passed, Begins}
 use Rattle.utf8.proofs.Bytes.{below, every-byte}
 use Rattle.utf8.proofs.CodePoints.{run-Bad}
-use Rattle.utf8.proofs.Walk.{part-from}
 
 -- ---- byte by byte
 pub stepOf-within : (lo hi n b : ℕ) → stepOf (Tail lo hi n) b ≡ (if within lo hi b then rest n else Bad)
@@ -138,22 +138,22 @@ short-of-four s h k = short-of 3 s (awaits-3 (getD s 0 0) h k)
 
 -- ---- a character at a position of the text
 pub length-part : (s : List ℕ) (i : ℕ) → length (take (length s - i) (drop i s)) ≡ length s - i
-length-part s i = ap length (part-from s i) ∙ length-drop i s
+length-part s i = ap length (part-to-end s i) ∙ length-drop i s
 
 pub front-part : (s : List ℕ) (i : ℕ) → getD (take (length s - i) (drop i s)) 0 0 ≡ getD s i 0
-front-part s i = ap (λ (l : List ℕ). getD l 0 0) (part-from s i) ∙ getD-drop i s 0 0 ∙ ap (λ (k : ℕ). getD s k 0) (add-zero i)
+front-part s i = ap (λ (l : List ℕ). getD l 0 0) (part-to-end s i) ∙ getD-drop i s 0 0 ∙ ap (λ (k : ℕ). getD s k 0) (add-zero i)
 
 pub begins-passed : (s : List ℕ) (i n : ℕ) (r : Bool) → i ≤ length s → Begins n (take (length s - i) (drop i s)) r → r ≡ true → Passed s i (i + n)
 unfolding Begins
 begins-passed s i n r h a q =
-    let f : Begins n (drop i s) true = subst (λ (l : List ℕ). Begins n l true) (part-from s i) (subst (λ (x : Bool). Begins n (take (length s - i) (drop i s)) x) q a) in
+    let f : Begins n (drop i s) true = subst (λ (l : List ℕ). Begins n l true) (part-to-end s i) (subst (λ (x : Bool). Begins n (take (length s - i) (drop i s)) x) q a) in
     let l : n ≤ length s - i = rw (length-drop i s) at (f .1) in
     (omega arith, omega arith, ap (run Start) (sym (drop-drop n i s)) ∙ f .2)
 
 pub begins-not : (s : List ℕ) (i n : ℕ) (r : Bool) → run Start (drop i s) ≡ run Start s → Begins n (take (length s - i) (drop i s)) r → r ≡ false → isUtf8 s ≡ false
 unfolding Begins isUtf8
 begins-not s i n r e a q =
-    let f : Begins n (drop i s) false = subst (λ (l : List ℕ). Begins n l false) (part-from s i) (subst (λ (x : Bool). Begins n (take (length s - i) (drop i s)) x) q a) in
+    let f : Begins n (drop i s) false = subst (λ (l : List ℕ). Begins n l false) (part-to-end s i) (subst (λ (x : Bool). Begins n (take (length s - i) (drop i s)) x) q a) in
     ap ended (sym e) ∙ f
 
 pub passed-whole : (s : List ℕ) (i : ℕ) → length s ≤ i → Passed s 0 i → isUtf8 s ≡ true

@@ -7,8 +7,9 @@ use native.Mathlib.Nat.{zero-add, add-zero}
 use native.Mathlib.Numerals.{add-one}
 use native.Mathlib.Omega.{arith}
 use borrow.Author.Tests.{le-leb}
+use borrow.Rule.Slice.PartAt.{part-to-end}
 use lib.ListN.{length, take, drop, set, length-drop, take-append-drop}
-use lib.Seq.{take-all, drop-drop, take-suc-set, drop-set-lt}
+use lib.Seq.{drop-drop, take-suc-set, drop-set-lt}
 use Rattle.base.specs.Base.{if_then_else_}
 use Rattle.utf8.specs.Utf8.{Start, isUtf8, pointsFrom, allLatin1, latin1Count}
 use Rattle.utf8.specs.Front.{AtFront}
@@ -17,16 +18,12 @@ use Rattle.utf8.specs.declared.Points.the-variants.{Of, Above}
 use Rattle.utf8.specs.declared.Front.{Front}
 use Rattle.utf8.specs.declared.Front.the-variants.{Point, High}
 
--- the part of a slice from a position on
-pub part-from : (s : List ℕ) (i : ℕ) → take (length s - i) (drop i s) ≡ drop i s
-part-from s i = take-all (length s - i) (drop i s) (simp length-drop (omega arith))
-
 -- ---- the character at a position
 pub next-point : (s : List ℕ) (i : ℕ) (r : Front) (p k : ℕ) → i ≤ length s → AtFront (take (length s - i) (drop i s)) r → r ≡ Point p k
     → (1 ≤ k) × (i + k ≤ length s) × (p ≤ 255) × (pointsFrom Start 0 (drop i s) ≡ p ∷ pointsFrom Start 0 (drop (i + k) s)) × (isUtf8 (drop (i + k) s) ≡ true)
 unfolding AtFront
 next-point s i r p k h a q =
-    let f : AtFront (drop i s) (Point p k) = subst (λ (l : List ℕ). AtFront l (Point p k)) (part-from s i) (subst (λ (x : Front). AtFront (take (length s - i) (drop i s)) x) q a) in
+    let f : AtFront (drop i s) (Point p k) = subst (λ (l : List ℕ). AtFront l (Point p k)) (part-to-end s i) (subst (λ (x : Front). AtFront (take (length s - i) (drop i s)) x) q a) in
     let l : k ≤ length s - i = rw (length-drop i s) at (f .1) in
     let e : drop k (drop i s) ≡ drop (i + k) s = drop-drop k i s in
     (f .0, omega arith, f .2, subst (λ (l : List ℕ). pointsFrom Start 0 (drop i s) ≡ p ∷ pointsFrom Start 0 l) e (f .3), subst (λ (l : List ℕ). isUtf8 l ≡ true) e (f .4))
@@ -34,7 +31,7 @@ next-point s i r p k h a q =
 pub next-high : (s : List ℕ) (i : ℕ) (r : Front) → AtFront (take (length s - i) (drop i s)) r → r ≡ High → allLatin1 (pointsFrom Start 0 (drop i s)) ≡ false
 unfolding AtFront
 next-high s i r a q =
-    subst (λ (l : List ℕ). AtFront l High) (part-from s i) (subst (λ (x : Front). AtFront (take (length s - i) (drop i s)) x) q a)
+    subst (λ (l : List ℕ). AtFront l High) (part-to-end s i) (subst (λ (x : Front). AtFront (take (length s - i) (drop i s)) x) q a)
 
 -- ---- counting
 abbrev pub counted : ℕ → List ℕ → Points

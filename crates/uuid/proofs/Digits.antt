@@ -3,7 +3,7 @@ use Prim.Native.Nat.{ℕ, suc, _+_, _-_, _*_, _≤_, _<_}
 use mathlib.Core.Path.{_≡_, refl, ap, sym, _∙_}
 use mathlib.Core.List.{List, [], _∷_, _++_}
 use mathlib.Core.Option.{Option, none, some}
-use mathlib.Core.Bool.{Bool, true, false, _&&_}
+use mathlib.Core.Bool.{Bool, true, false, and-eq-true-iff}
 use borrow.Author.Tests.{leb-true}
 use native.Mathlib.Omega.{arith}
 use lib.Dec.{leb}
@@ -14,11 +14,6 @@ use Rattle.uuid.specs.Uuid.{within, hexDigit, hexPair, hexBytes}
 use Rattle.uuid.specs.Forms.{orSixteen}
 
 -- ---- one digit
-pub and-true : (s t : Bool) → (s && t) ≡ true → (s ≡ true) × (t ≡ true)
-and-true true t e = (refl, e)
-and-true false true e = (e, refl)
-and-true false false e = (e, e)
-
 -- a value, if there is one, is below 16
 unfoldable pub Small : Option ℕ → Type 0
 Small none = Unit {0}
@@ -31,7 +26,7 @@ small-if false v x h s = s
 
 below : (low high c k : ℕ) → high + k < low + 16 → within low high c ≡ true → c - low + k < 16
 below low high c k h e =
-    let p = and-true (leb low c) (leb c high) e in
+    let p = and-eq-true-iff (leb low c) (leb c high) .0 e in
     omega (arith, leb-true low c (p .0), leb-true c high (p .1))
 
 pub small-hexDigit : (c : ℕ) → Small (hexDigit c)

@@ -4,7 +4,7 @@ use Prim.Native.Nat.{ℕ, _+_, _-_, _*_, _/_, _%_, _≤_, _<_}
 use mathlib.Core.Path.{_≡_, refl, ap, sym, _∙_}
 use mathlib.Core.List.{List, [], _∷_, _++_}
 use mathlib.Core.Option.{some}
-use mathlib.Core.Bool.{true}
+use mathlib.Core.Bool.{true, and-eq-true-iff}
 use borrow.Author.Tests.{ltb-true, le-leb, lt-leb}
 use native.Mathlib.Decide.{decLe}
 use native.Mathlib.Omega.{arith}
@@ -14,7 +14,6 @@ use Rattle.number.specs.Number.{allBytes}
 use Rattle.text.specs.Text.{Text, ascii, same}
 use Rattle.uuid.specs.Uuid.{hexDigit, hexPair, hexBytes, hyphenated, uuidOfText}
 use Rattle.uuid.specs.Rfc4122.{smallDigit, capitalDigit, hexText, grouped, rfc4122}
-use Rattle.uuid.proofs.Digits.{and-true}
 use Rattle.uuid.proofs.Groups36.{gets, gets-rest}
 
 -- ---- digits that are written are read
@@ -54,7 +53,7 @@ pub hexBytes-hexText : (digit : ℕ → ℕ) → Readable digit → (b : List �
 unfolding hexPair hexBytes hexText allBytes
 hexBytes-hexText digit r [] e = refl
 hexBytes-hexText digit r (x ∷ b) e =
-    let p = and-true (ltb x 256) (allBytes b) e in
+    let p = and-eq-true-iff (ltb x 256) (allBytes b) .0 e in
     let l : x < 256 = ltb-true x 256 (p .0) in
     let v : x / 16 * 16 + x % 16 ≡ x = omega arith in
     rw (r (x / 16) (omega arith), r (x % 16) (omega arith), hexBytes-hexText digit r b (p .1)) (ap (λ (y : ℕ). some (y ∷ b)) v)

@@ -3,7 +3,7 @@ use Prim.Native.Nat.{ℕ, zero, suc, _+_, _*_}
 use mathlib.Core.Path.{_≡_, refl, ap, sym}
 use mathlib.Core.List.{List, [], _∷_}
 use mathlib.Core.Option.{Option, none, some}
-use mathlib.Core.Bool.{Bool, true, false, _&&_}
+use mathlib.Core.Bool.{Bool, true, false, _&&_, and-eq-true-iff}
 use borrow.Author.Tests.{eqb-true, lt-ltb}
 use native.Mathlib.Omega.{arith}
 use lib.Dec.{eqb}
@@ -14,7 +14,7 @@ use Rattle.number.specs.Number.{allBytes}
 use Rattle.text.specs.Text.{Text, ascii, same}
 use Rattle.uuid.specs.Uuid.{hexDigit, hexPair, hexBytes, hyphenated, uuidOfText}
 use Rattle.uuid.specs.Forms.{hasHyphens, withoutHyphens}
-use Rattle.uuid.proofs.Digits.{and-true, Small, small-hexDigit}
+use Rattle.uuid.proofs.Digits.{Small, small-hexDigit}
 use Rattle.uuid.proofs.Groups36.{picked, picked-withoutHyphens}
 
 -- nothing, or n bytes
@@ -62,12 +62,12 @@ sized-uuidOfText t =
   where
     braces : (eqb (length t) 38 && eqb (getD t 0 0) 0x7b && eqb (getD t 37 0) 0x7d) ≡ true → Sized 16 (hyphenated (take 36 (drop 1 t)))
     braces e =
-        let n : length t ≡ 38 = eqb-true _ _ (and-true _ _ (and-true _ _ e .0) .0) in
+        let n : length t ≡ 38 = eqb-true _ _ (and-eq-true-iff _ _ .0 (and-eq-true-iff _ _ .0 e .0) .0) in
         sized-hyphenated (take 36 (drop 1 t)) (length-take-le 36 (drop 1 t) (simp length-drop (omega arith)))
 
     urn : (eqb (length t) 45 && same (take 9 t) (ascii "urn:uuid:")) ≡ true → Sized 16 (hyphenated (drop 9 t))
     urn e =
-        let n : length t ≡ 45 = eqb-true _ _ (and-true _ _ e .0) in
+        let n : length t ≡ 45 = eqb-true _ _ (and-eq-true-iff _ _ .0 e .0) in
         sized-hyphenated (drop 9 t) (simp length-drop (omega arith))
 
 pub length-uuidOfText : (t : Text) (b : List ℕ) → uuidOfText t ≡ some b → length b ≡ 16

@@ -1,9 +1,10 @@
 use borrow.Author.Needs.{needs}
+use borrow.Rule.Slice.PartAt.{part-to-end}
 use native.Mathlib.Omega.{arith}
 use Prim.Native.Nat.{_-_}
 use mathlib.Core.Path.{_≡_, ap, _∙_}
 use lib.ListN.{length, length-drop}
-use Rattle.buffer.proofs.BuiltLaws.{built-append, built-small, tail-is, tail-back}
+use Rattle.buffer.proofs.BuiltLaws.{built-append, built-small, tail-back}
 use Rattle.buffer.proofs.append.Statement.{statement}
 use Rattle.buffer.proofs.append.Tie as tie
 
@@ -33,7 +34,7 @@ returns c b w =
     let a = c .before .before .before .before .before .before .before .before .args in
     let k = c .before .before .before .before .before .room .result in
     let y = c .before .before .before .put .last .0 in
-    let l : length y ≡ length (a .out .now) - k = c .before .before .before .put .kept .0 ∙ ap length (tail-is k (a .out .now)) ∙ length-drop k (a .out .now) in
+    let l : length y ≡ length (a .out .now) - k = c .before .before .before .put .kept .0 ∙ ap length (part-to-end (a .out .now) k) ∙ length-drop k (a .out .now) in
     rw tail-back (built-append b (a .t .now) (a .out .now) y _ _ k _ w (c .before .before .before .before .before .room .ensures) l (c .before .before .before .put .ensures) (c .joined .ensures))
 
 pub append-spec : {M : Type 1} → statement M

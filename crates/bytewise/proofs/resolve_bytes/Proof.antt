@@ -2,7 +2,6 @@
 use native.Mathlib.Omega.{arith}
 use Rattle.number.proofs.Laws.{getD-allBytes}
 use Rattle.frame.specs.Tree.{kindOf, octets}
-use Rattle.frame.proofs.Reading.{suffix}
 use Rattle.frame.proofs.ValueNodes.{value-there}
 use Rattle.types.specs.Types.{resolve-bytes}
 use Rattle.types.proofs.NodeLaws.{kind-refused}
@@ -10,6 +9,7 @@ use Rattle.types.proofs.PartLaws.{content-Bytes, content-String, counted-reads,
 use Rattle.types.proofs.OctetLaws.{bytes-other}
 use Rattle.bytewise.proofs.ByteLaws.{array-reads, array-answer}
 use borrow.Author.Needs.{needs}
+use borrow.Rule.Slice.PartAt.{part-to-end}
 use Rattle.bytewise.proofs.resolve_bytes.Statement.{statement}
 use Rattle.bytewise.proofs.resolve_bytes.Tie as tie
 
@@ -61,13 +61,13 @@ sub-byte-items-2 : tie.Need-sub-byte-items-2
 sub-byte-items-2 c = omega (arith, value-there _ _ (c .before .before .before .before .before .before .before .before .before .before .pre) .0)
 
 byte-items-requires : tie.Need-byte-items-requires
-byte-items-requires c κs = array-reads _ _ (c .before .before .before .before .before .before .before .before .before .before .pre) (c .before .before .if3 .taken) _ (suffix 1 (c .before .before .before .before .before .before .before .before .before .before .args .v .now))
+byte-items-requires c κs = array-reads _ _ (c .before .before .before .before .before .before .before .before .before .before .pre) (c .before .before .if3 .taken) _ (part-to-end (c .before .before .before .before .before .before .before .before .before .before .args .v .now) 1)
 
 same-length-3 : tie.Need-same-length-3
 same-length-3 c = search needs
 
 returns-3 : tie.Need-returns-3
-returns-3 c = array-answer _ _ (c .before .before .before .before .before .before .before .before .before .before .before .before .before .pre) (c .before .before .before .before .before .if3 .taken) _ (suffix 1 (c .before .before .before .before .before .before .before .before .before .before .before .before .before .args .v .now)) _ _ (c .before .before .byte-items .ensures)
+returns-3 c = array-answer _ _ (c .before .before .before .before .before .before .before .before .before .before .before .before .before .pre) (c .before .before .before .before .before .if3 .taken) _ (part-to-end (c .before .before .before .before .before .before .before .before .before .before .before .before .before .args .v .now) 1) _ _ (c .before .before .byte-items .ensures)
 
 returns-4 : tie.Need-returns-4
 returns-4 c = kind-refused resolve-bytes _ _ (c .before .before .before .before .before .before .before .before .pre) (getD-allBytes (c .before .before .before .before .before .before .before .before .args .v .now) (λ i. omega (arith, c .before .before .before .before .before .before .before .shared-slice-known .given i))) 6 (λ w e. bytes-other _ w e (c .before .before .before .before .if1 .left) (c .before .before .if2 .left) (c .if3 .left)) _

@@ -2,10 +2,10 @@
 use native.Mathlib.Omega.{arith}
 use mathlib.Core.Path.{sym, _∙_}
 use Rattle.number.proofs.Laws.{getD-allBytes}
-use Rattle.frame.proofs.Reading.{suffix}
 use Rattle.frame.proofs.ValueNodes.{value-there, value-kind}
 use Rattle.bytewise.proofs.ByteLaws.{union-node, union-reads, union-answer, plain-answer}
 use borrow.Author.Needs.{needs}
+use borrow.Rule.Slice.PartAt.{part-to-end}
 use Rattle.bytewise.proofs.try_u8.Statement.{statement}
 use Rattle.bytewise.proofs.try_u8.Tie as tie
 
@@ -25,10 +25,10 @@ sub-int-byte-2 : tie.Need-sub-int-byte-2
 sub-int-byte-2 c = omega (arith, value-there _ _ (c .before .before .before .before .pre) .0)
 
 int-byte-requires : tie.Need-int-byte-requires
-int-byte-requires c κs = union-reads _ _ (c .before .before .before .before .pre) (c .before .if1 .taken) _ (suffix 5 (c .before .before .before .before .args .v .now))
+int-byte-requires c κs = union-reads _ _ (c .before .before .before .before .pre) (c .before .if1 .taken) _ (part-to-end (c .before .before .before .before .args .v .now) 5)
 
 returns : tie.Need-returns
-returns c = union-answer _ _ (c .before .before .before .before .before .pre) (c .before .before .if1 .taken) _ (suffix 5 (c .before .before .before .before .before .args .v .now)) _ (c .int-byte .ensures)
+returns c = union-answer _ _ (c .before .before .before .before .before .pre) (c .before .before .if1 .taken) _ (part-to-end (c .before .before .before .before .before .args .v .now) 5) _ (c .int-byte .ensures)
 
 int-byte-requires-2 : tie.Need-int-byte-requires-2
 int-byte-requires-2 c κs = search needs

@@ -2,7 +2,7 @@
 use Rattle.field.proofs.Places.{flag-inside, behind-inside, parts-none, default-reads, schema-inside, parts-some}
 use native.Mathlib.Omega.{arith}
 use borrow.Author.Needs.{needs}
-use Rattle.frame.proofs.Reading.{suffix}
+use borrow.Rule.Slice.PartAt.{part-to-end}
 use Rattle.field.proofs.field_at.Statement.{statement}
 use Rattle.field.proofs.field_at.Tie as tie
 use Rattle.schema.proofs.Checking.{name-reads}
@@ -32,13 +32,13 @@ part-value-len-end : tie.Need-part-value-len-end
 part-value-len-end c = search needs
 
 value-len-requires : tie.Need-value-len-requires
-value-len-requires c κs = rw suffix (default-reads _ _ (c .before .before .before .before .before .pre) _ _ (c .before .before .before .content .ensures .0) (c .before .if1 .left))
+value-len-requires c κs = rw part-to-end (default-reads _ _ (c .before .before .before .before .before .pre) _ _ (c .before .before .before .content .ensures .0) (c .before .if1 .left))
 
 add-t7 : tie.Need-add-t7
-add-t7 c = omega (arith, schema-inside _ _ (c .before .before .before .before .before .before .pre) _ _ (c .before .before .before .before .content .ensures .0) (c .before .before .if1 .left) _ (rw suffix at (c .value-len .ensures)), c .before .before .before .before .before .before .good)
+add-t7 c = omega (arith, schema-inside _ _ (c .before .before .before .before .before .before .pre) _ _ (c .before .before .before .before .content .ensures .0) (c .before .before .if1 .left) _ (rw part-to-end at (c .value-len .ensures)), c .before .before .before .before .before .before .good)
 
 returns-2 : tie.Need-returns-2
-returns-2 c = parts-some _ _ (c .before .before .before .before .before .before .pre) _ _ (c .before .before .before .before .content .ensures .0) (c .before .before .if1 .left) _ (rw suffix at (c .value-len .ensures))
+returns-2 c = parts-some _ _ (c .before .before .before .before .before .before .pre) _ _ (c .before .before .before .before .content .ensures .0) (c .before .before .if1 .left) _ (rw part-to-end at (c .value-len .ensures))
 
 pub field-at-spec : {M : Type 1} → statement M
 field-at-spec =

@@ -15,7 +15,7 @@ use Rattle.frame.specs.SchemaFrame.{readSchema}
 use Rattle.frame.proofs.Measuring.{spans-le}
 use Rattle.frame.proofs.ValueNodes.{value-there}
 use Rattle.frame.proofs.SchemaNodes.{schema-there}
-use Rattle.buffer.proofs.BuiltLaws.{tail-is, built-small}
+use Rattle.buffer.proofs.BuiltLaws.{built-small}
 use Rattle.types.specs.Contract.{onBoth}
 use Rattle.resolution.specs.Contract.{nodeBytes, peeledBytes, entryBytes}
 use Rattle.resolution.proofs.ReadParts.{value-array, value-map, ready-reads}
@@ -33,6 +33,7 @@ use Rattle.resolution.proofs.UnionReading.{passed-step}
 use Rattle.resolution.proofs.UnionCycle.{NoneBelow, NoneTaken, wrote-sixth, count-small, ready-long, ready-deep, ready-count, ready-below, below-ready, ready-start, variant-ready, variant-reads, variant-accepted, variant-refused, kind-tried, try-other, try-one, naming-start, naming-end, naming-below, naming-step, naming-hit, naming-inside, naming-before, before-inside, try-before, again-table, again-inside, again-named, again-one, table-yet, union-yet, searching-start, searching-end, searching-step, searching-hit, stands-below, any-found, any-none, table-count, table-accepted, table-untried, table-named, table-any, table-other, named-wanted, named-unwanted, union-table, union-index, union-named, union-first}
 use borrow.Fn.Kinds.{In}
 use borrow.Fn.PlainCycle.{Measures, is, falls, and}
+use borrow.Rule.Slice.PartAt.{part-to-end}
 use Rattle.find.proofs.FindLaws.{keyed-length}
 use Rattle.find.proofs.MarkLaws.{marked-not}
 use Rattle.resolution.proofs.resolve.any_of.Reads as any-of
@@ -96,7 +97,7 @@ use Rattle.buffer.proofs.joined.Reads as joined-reads
 use Rattle.buffer.proofs.put.Reads as put-reads
 use Rattle.buffer.proofs.room.Reads as room-reads
 use Rattle.field.proofs.field_at.Reads as field-at-reads
-use Rattle.find.proofs.entry_len.Reads as entry-len-reads
+use Rattle.value.proofs.entry_len.Reads as entry-len-reads
 use Rattle.find.proofs.peel.Reads as peel-reads
 use Rattle.number.proofs.read2.Reads as read2-reads
 use Rattle.resolution.proofs.leaf.resolve_leaf.Reads as resolve-leaf-reads
@@ -402,7 +403,7 @@ default-slice-aggregate-resolve-node : (t : ℕ) → default-lts.Need-slice-aggr
 default-slice-aggregate-resolve-node t c = search needs
 
 default-resolve-node-requires-2 : (t : ℕ) → default-lts.Need-resolve-node-requires-2 (resolve-node-below t, resolve-node.Post, resolve-union-below t, resolve-union.Post) (default-at t) default.Post
-default-resolve-node-requires-2 t c κs = let h = schema-there _ _ (ready-reads _ _ (c .before .before .before .before .before .before .before .before .before .pre .1 .schema)) .0 in (omega (arith, c .before .before .before .before .before .before .before .before .before .pre .0), (rw tail-is (first-ready _ _ (c .before .before .before .before .before .before .before .before .before .pre .1 .schema) (c .before .before .before .before .if1 .left)), default-value _ _ _ (c .before .before .before .before .before .before .before .before .before .pre .1)))
+default-resolve-node-requires-2 t c κs = let h = schema-there _ _ (ready-reads _ _ (c .before .before .before .before .before .before .before .before .before .pre .1 .schema)) .0 in (omega (arith, c .before .before .before .before .before .before .before .before .before .pre .0), (rw part-to-end (first-ready _ _ (c .before .before .before .before .before .before .before .before .before .pre .1 .schema) (c .before .before .before .before .if1 .left)), default-value _ _ _ (c .before .before .before .before .before .before .before .before .before .pre .1)))
 
 default-enum-told : (t : ℕ) → default-lts.Need-enum-told (resolve-node-below t, resolve-node.Post, resolve-union-below t, resolve-union.Post) (default-at t) default.Post
 default-enum-told t c = search needs
@@ -411,7 +412,7 @@ default-slice-aggregate-resolve-union-2 : (t : ℕ) → default-lts.Need-slice-a
 default-slice-aggregate-resolve-union-2 t c = search needs
 
 default-resolve-union-requires-2 : (t : ℕ) → default-lts.Need-resolve-union-requires-2 (resolve-node-below t, resolve-node.Post, resolve-union-below t, resolve-union.Post) (default-at t) default.Post
-default-resolve-union-requires-2 t c κs = (omega (arith, c .before .before .before .before .before .before .before .before .before .before .before .before .before .before .before .pre .0), (c .before .before .before .before .before .before .before .before .before .before .before .before .before .before .before .pre .1 .schema, made-value _ _ _ (c .before .before .before .before .before .before .before .before .before .before .before .before .before .before .before .pre .1) (c .before .before .before .before .before .before .before .before .before .before .if1 .left) (c .before .before .before .before .before .before .before .before .if2 .left) (getD-allBytes (c .before .before .before .before .before .before .before .before .before .before .before .before .before .before .before .args .s .now) (λ i. omega (arith, c .before .before .before .before .before .before .before .before .before .before .before .before .before .before .shared-slice-known .given i))) (getD-allBytes (c .before .before .before .before .before .before .before .before .before .before .before .before .before .before .before .args .d .now) (λ i. omega (arith, c .before .before .before .before .before .before .before .before .before .before .before .before .before .shared-slice-known2 .given i))) _ _ (rw (c .before .before .enum-told .given .1, tail-is) at (c .before .before .before .before .before .resolve-node2 .ensures)) (c .before .before .before .before .before .resolve-node2 .kept .1 .1 .0), c .before .before .before .before .before .before .before .before .before .before .if1 .left))
+default-resolve-union-requires-2 t c κs = (omega (arith, c .before .before .before .before .before .before .before .before .before .before .before .before .before .before .before .pre .0), (c .before .before .before .before .before .before .before .before .before .before .before .before .before .before .before .pre .1 .schema, made-value _ _ _ (c .before .before .before .before .before .before .before .before .before .before .before .before .before .before .before .pre .1) (c .before .before .before .before .before .before .before .before .before .before .if1 .left) (c .before .before .before .before .before .before .before .before .if2 .left) (getD-allBytes (c .before .before .before .before .before .before .before .before .before .before .before .before .before .before .before .args .s .now) (λ i. omega (arith, c .before .before .before .before .before .before .before .before .before .before .before .before .before .before .shared-slice-known .given i))) (getD-allBytes (c .before .before .before .before .before .before .before .before .before .before .before .before .before .before .before .args .d .now) (λ i. omega (arith, c .before .before .before .before .before .before .before .before .before .before .before .before .before .shared-slice-known2 .given i))) _ _ (rw (c .before .before .enum-told .given .1, part-to-end) at (c .before .before .before .before .before .resolve-node2 .ensures)) (c .before .before .before .before .before .resolve-node2 .kept .1 .1 .0), c .before .before .before .before .before .before .before .before .before .before .if1 .left))
 
 default-enum-known-e : (t : ℕ) → default-lts.Need-enum-known-e (resolve-node-below t, resolve-node.Post, resolve-union-below t, resolve-union.Post) (default-at t) default.Post
 default-enum-known-e t c = search needs
@@ -420,10 +421,10 @@ default-same-length-3 : (t : ℕ) → default-lts.Need-same-length-3 (resolve-no
 default-same-length-3 t c = search needs
 
 default-returns-3 : (t : ℕ) → default-lts.Need-returns-3 (resolve-node-below t, resolve-node.Post, resolve-union-below t, resolve-union.Post) (default-at t) default.Post
-default-returns-3 t c = wrote-eq _ _ _ _ (default-made _ _ _ (c .before .before .before .before .before .before .before .before .before .before .before .before .before .before .before .before .before .before .pre .1) (c .before .before .before .before .before .before .before .before .before .before .before .before .before .if1 .left) (c .before .before .before .before .before .before .before .before .before .before .before .if2 .left) (getD-allBytes (c .before .before .before .before .before .before .before .before .before .before .before .before .before .before .before .before .before .before .args .s .now) (λ i. omega (arith, c .before .before .before .before .before .before .before .before .before .before .before .before .before .before .before .before .before .shared-slice-known .given i))) (getD-allBytes (c .before .before .before .before .before .before .before .before .before .before .before .before .before .before .before .before .before .before .args .d .now) (λ i. omega (arith, c .before .before .before .before .before .before .before .before .before .before .before .before .before .before .before .before .shared-slice-known2 .given i))) _ _ (rw (c .before .before .before .before .before .enum-told .given .1, tail-is) at (c .before .before .before .before .before .before .before .before .resolve-node2 .ensures)) (c .before .before .before .before .before .before .before .before .resolve-node2 .kept .1 .1 .0)) (c .before .before .resolve-union2 .ensures)
+default-returns-3 t c = wrote-eq _ _ _ _ (default-made _ _ _ (c .before .before .before .before .before .before .before .before .before .before .before .before .before .before .before .before .before .before .pre .1) (c .before .before .before .before .before .before .before .before .before .before .before .before .before .if1 .left) (c .before .before .before .before .before .before .before .before .before .before .before .if2 .left) (getD-allBytes (c .before .before .before .before .before .before .before .before .before .before .before .before .before .before .before .before .before .before .args .s .now) (λ i. omega (arith, c .before .before .before .before .before .before .before .before .before .before .before .before .before .before .before .before .before .shared-slice-known .given i))) (getD-allBytes (c .before .before .before .before .before .before .before .before .before .before .before .before .before .before .before .before .before .before .args .d .now) (λ i. omega (arith, c .before .before .before .before .before .before .before .before .before .before .before .before .before .before .before .before .shared-slice-known2 .given i))) _ _ (rw (c .before .before .before .before .before .enum-told .given .1, part-to-end) at (c .before .before .before .before .before .before .before .before .resolve-node2 .ensures)) (c .before .before .before .before .before .before .before .before .resolve-node2 .kept .1 .1 .0)) (c .before .before .resolve-union2 .ensures)
 
 default-returns-4 : (t : ℕ) → default-lts.Need-returns-4 (resolve-node-below t, resolve-node.Post, resolve-union-below t, resolve-union.Post) (default-at t) default.Post
-default-returns-4 t c = default-refused _ _ _ (c .before .before .before .before .before .before .before .before .before .before .before .before .before .before .pre .1) (c .before .before .before .before .before .before .before .before .before .if1 .left) (c .before .before .before .before .before .before .before .if2 .left) _ _ _ (rw (c .before .e .given .1, tail-is) at (c .before .before .before .before .resolve-node2 .ensures))
+default-returns-4 t c = default-refused _ _ _ (c .before .before .before .before .before .before .before .before .before .before .before .before .before .before .pre .1) (c .before .before .before .before .before .before .before .before .before .if1 .left) (c .before .before .before .before .before .before .before .if2 .left) _ _ _ (rw (c .before .e .given .1, part-to-end) at (c .before .before .before .before .resolve-node2 .ensures))
 
 entry-content-requires : (t : ℕ) → entry-lts.Need-content-requires (content-reads.Asked, content-reads.Learnt, put-reads.Asked, put-reads.Learnt, room-reads.Asked, room-reads.Learnt, resolve-node-below t, resolve-node.Post, joined-reads.Asked, joined-reads.Learnt) (entry-at t) entry.Post
 entry-content-requires t c κs = entry-counted _ _ (c .before .before .before .pre .1 .1)
@@ -459,7 +460,7 @@ entry-part-resolve-node-end-2 : (t : ℕ) → entry-lts.Need-part-resolve-node-e
 entry-part-resolve-node-end-2 t c = search needs
 
 entry-resolve-node-requires : (t : ℕ) → entry-lts.Need-resolve-node-requires (content-reads.Asked, content-reads.Learnt, put-reads.Asked, put-reads.Learnt, room-reads.Asked, room-reads.Learnt, resolve-node-below t, resolve-node.Post, joined-reads.Asked, joined-reads.Learnt) (entry-at t) entry.Post
-entry-resolve-node-requires t c κs = (omega (arith, c .before .before .before .before .before .before .before .before .before .before .before .before .pre .0), (c .before .before .before .before .before .before .before .before .before .before .before .before .pre .1 .0, rw tail-is (entry-value _ _ _ (c .before .before .before .before .before .before .before .before .before .before .before .before .pre .1 .1) (c .before .before .before .before .before .before .before .before .content .ensures .0))))
+entry-resolve-node-requires t c κs = (omega (arith, c .before .before .before .before .before .before .before .before .before .before .before .before .pre .0), (c .before .before .before .before .before .before .before .before .before .before .before .before .pre .1 .0, rw part-to-end (entry-value _ _ _ (c .before .before .before .before .before .before .before .before .before .before .before .before .pre .1 .1) (c .before .before .before .before .before .before .before .before .content .ensures .0))))
 
 entry-enum-known-m : (t : ℕ) → entry-lts.Need-enum-known-m (content-reads.Asked, content-reads.Learnt, put-reads.Asked, put-reads.Learnt, room-reads.Asked, room-reads.Learnt, resolve-node-below t, resolve-node.Post, joined-reads.Asked, joined-reads.Learnt) (entry-at t) entry.Post
 entry-enum-known-m t c = search needs
@@ -474,13 +475,13 @@ entry-same-length : (t : ℕ) → entry-lts.Need-same-length (content-reads.Aske
 entry-same-length t c = same-len-mid {X = ℕ} (c .before .before .before .before .before .before .before .before .before .room .result) (length (c .before .before .before .before .before .before .before .before .before .before .before .before .put .last .0) - c .before .before .before .before .before .before .before .before .before .room .result) (c .before .before .before .before .before .before .before .before .before .before .before .before .put .last .0) (c .before .before .before .before .before .before .resolve-node .last .1 .1 .0) (c .before .before .before .before .before .before .resolve-node .kept .1 .1 .0) ∙ c .before .before .before .before .before .before .before .before .before .before .before .before .put .kept .0
 
 entry-returns : (t : ℕ) → entry-lts.Need-returns (content-reads.Asked, content-reads.Learnt, put-reads.Asked, put-reads.Learnt, room-reads.Asked, room-reads.Learnt, resolve-node-below t, resolve-node.Post, joined-reads.Asked, joined-reads.Learnt) (entry-at t) entry.Post
-entry-returns t c = wrote-last _ _ _ _ _ _ _ _ _ (c .before .before .before .before .before .before .before .before .before .before .before .before .put .ensures) (entry-whole _ _ _ _ _ (c .before .before .before .before .before .before .before .before .before .before .before .before .before .before .before .before .before .before .before .pre .1 .0) (c .before .before .before .before .before .before .before .before .before .before .before .before .before .before .before .before .before .before .before .pre .1 .1) (getD-allBytes (c .before .before .before .before .before .before .before .before .before .before .before .before .before .before .before .before .before .before .before .args .v .now) (λ i. omega (arith, c .before .before .before .before .before .before .before .before .before .before .before .before .before .before .before .before .before .shared-slice-known2 .given i))) (c .before .before .before .before .before .before .before .before .before .before .before .before .before .before .before .content .ensures .0)) (c .before .before .before .before .before .before .before .before .before .room .ensures) (c .before .before .before .before .before .before .resolve-node .kept .1 .1 .0) (rw (c .before .before .m .given .1, tail-is) at (c .before .before .before .before .before .before .resolve-node .ensures)) (c .joined .ensures)
+entry-returns t c = wrote-last _ _ _ _ _ _ _ _ _ (c .before .before .before .before .before .before .before .before .before .before .before .before .put .ensures) (entry-whole _ _ _ _ _ (c .before .before .before .before .before .before .before .before .before .before .before .before .before .before .before .before .before .before .before .pre .1 .0) (c .before .before .before .before .before .before .before .before .before .before .before .before .before .before .before .before .before .before .before .pre .1 .1) (getD-allBytes (c .before .before .before .before .before .before .before .before .before .before .before .before .before .before .before .before .before .before .before .args .v .now) (λ i. omega (arith, c .before .before .before .before .before .before .before .before .before .before .before .before .before .before .before .before .before .shared-slice-known2 .given i))) (c .before .before .before .before .before .before .before .before .before .before .before .before .before .before .before .content .ensures .0)) (c .before .before .before .before .before .before .before .before .before .room .ensures) (c .before .before .before .before .before .before .resolve-node .kept .1 .1 .0) (rw (c .before .before .m .given .1, part-to-end) at (c .before .before .before .before .before .before .resolve-node .ensures)) (c .joined .ensures)
 
 entry-same-length-2 : (t : ℕ) → entry-lts.Need-same-length-2 (content-reads.Asked, content-reads.Learnt, put-reads.Asked, put-reads.Learnt, room-reads.Asked, room-reads.Learnt, resolve-node-below t, resolve-node.Post, joined-reads.Asked, joined-reads.Learnt) (entry-at t) entry.Post
 entry-same-length-2 t c = same-len-mid {X = ℕ} (c .before .before .before .before .before .before .before .before .room .result) (length (c .before .before .before .before .before .before .before .before .before .before .before .put .last .0) - c .before .before .before .before .before .before .before .before .room .result) (c .before .before .before .before .before .before .before .before .before .before .before .put .last .0) (c .before .before .before .before .before .resolve-node .last .1 .1 .0) (c .before .before .before .before .before .resolve-node .kept .1 .1 .0) ∙ c .before .before .before .before .before .before .before .before .before .before .before .put .kept .0
 
 entry-returns-2 : (t : ℕ) → entry-lts.Need-returns-2 (content-reads.Asked, content-reads.Learnt, put-reads.Asked, put-reads.Learnt, room-reads.Asked, room-reads.Learnt, resolve-node-below t, resolve-node.Post, joined-reads.Asked, joined-reads.Learnt) (entry-at t) entry.Post
-entry-returns-2 t c = wrote-last-no _ _ (take (length (c .before .before .before .before .before .before .before .before .before .before .before .before .before .before .content .result .now) + 2) (c .before .before .before .before .before .before .before .before .before .before .before .before .before .before .before .before .before .before .args .v .now)) _ _ _ (entry-whole _ _ _ _ _ (c .before .before .before .before .before .before .before .before .before .before .before .before .before .before .before .before .before .before .pre .1 .0) (c .before .before .before .before .before .before .before .before .before .before .before .before .before .before .before .before .before .before .pre .1 .1) (getD-allBytes (c .before .before .before .before .before .before .before .before .before .before .before .before .before .before .before .before .before .before .args .v .now) (λ i. omega (arith, c .before .before .before .before .before .before .before .before .before .before .before .before .before .before .before .before .shared-slice-known2 .given i))) (c .before .before .before .before .before .before .before .before .before .before .before .before .before .before .content .ensures .0)) (rw (c .before .e .given .1, tail-is) at (c .before .before .before .before .before .resolve-node .ensures))
+entry-returns-2 t c = wrote-last-no _ _ (take (length (c .before .before .before .before .before .before .before .before .before .before .before .before .before .before .content .result .now) + 2) (c .before .before .before .before .before .before .before .before .before .before .before .before .before .before .before .before .before .before .args .v .now)) _ _ _ (entry-whole _ _ _ _ _ (c .before .before .before .before .before .before .before .before .before .before .before .before .before .before .before .before .before .before .pre .1 .0) (c .before .before .before .before .before .before .before .before .before .before .before .before .before .before .before .before .before .before .pre .1 .1) (getD-allBytes (c .before .before .before .before .before .before .before .before .before .before .before .before .before .before .before .before .before .before .args .v .now) (λ i. omega (arith, c .before .before .before .before .before .before .before .before .before .before .before .before .before .before .before .before .shared-slice-known2 .given i))) (c .before .before .before .before .before .before .before .before .before .before .before .before .before .before .content .ensures .0)) (rw (c .before .e .given .1, part-to-end) at (c .before .before .before .before .before .resolve-node .ensures))
 
 abbrev fields-Inv-loop : fields-lts.InvT-loop
 fields-Inv-loop s v out₀ ds dv names marked left₀ at₀ from₀ out left at from = FieldLoop s v ds dv (length out₀) out left at from
@@ -525,7 +526,7 @@ fields-sub-one-field-3 : (t : ℕ) → fields-lts.Need-sub-one-field-3 (read2-re
 fields-sub-one-field-3 t c = schema-there _ _ (ready-reads _ _ (c .before .before .before .before .before .before .before .before .before .before .before .before .before .before .before .pre .1 .0)) .0
 
 fields-one-field-requires : (t : ℕ) → fields-lts.Need-one-field-requires (read2-reads.Asked, read2-reads.Learnt, put-reads.Asked, put-reads.Learnt, room-reads.Asked, room-reads.Learnt, one-field-below t, one-field.Post, joined-reads.Asked, joined-reads.Learnt, field-reach-reads.Asked, field-reach-reads.Learnt) (fields-at t) fields.Post fields-Inv-loop fields-μ-loop
-fields-one-field-requires t c κs = let h = schema-there _ _ (ready-reads _ _ (c .before .before .before .before .before .before .before .before .before .before .before .before .before .before .before .pre .1 .0)) in (omega (arith, c .before .before .before .before .before .before .before .before .before .before .before .before .before .before .before .pre .0), (rw tail-is (fields-ready _ _ _ _ _ _ _ _ _ (c .before .before .before .before .loop .inv) (c .before .before .before .loop-test .taken)), c .before .before .before .before .before .before .before .before .before .before .before .before .before .before .before .pre .1 .1, c .before .before .before .before .before .before .before .before .before .before .before .before .before .before .before .pre .1 .3, c .before .before .before .before .before .before .before .before .before .before .before .before .before .before .before .pre .1 .4))
+fields-one-field-requires t c κs = let h = schema-there _ _ (ready-reads _ _ (c .before .before .before .before .before .before .before .before .before .before .before .before .before .before .before .pre .1 .0)) in (omega (arith, c .before .before .before .before .before .before .before .before .before .before .before .before .before .before .before .pre .0), (rw part-to-end (fields-ready _ _ _ _ _ _ _ _ _ (c .before .before .before .before .loop .inv) (c .before .before .before .loop-test .taken)), c .before .before .before .before .before .before .before .before .before .before .before .before .before .before .before .pre .1 .1, c .before .before .before .before .before .before .before .before .before .before .before .before .before .before .before .pre .1 .3, c .before .before .before .before .before .before .before .before .before .before .before .before .before .before .before .pre .1 .4))
 
 fields-enum-known-m : (t : ℕ) → fields-lts.Need-enum-known-m (read2-reads.Asked, read2-reads.Learnt, put-reads.Asked, put-reads.Learnt, room-reads.Asked, room-reads.Learnt, one-field-below t, one-field.Post, joined-reads.Asked, joined-reads.Learnt, field-reach-reads.Asked, field-reach-reads.Learnt) (fields-at t) fields.Post fields-Inv-loop fields-μ-loop
 fields-enum-known-m t c = search needs
@@ -540,7 +541,7 @@ fields-same-length : (t : ℕ) → fields-lts.Need-same-length (read2-reads.Aske
 fields-same-length t c = same-len-mid {X = ℕ} (c .before .before .before .before .before .before .before .before .room .result) (length (c .before .before .before .before .before .before .before .before .before .before .loop .out) - c .before .before .before .before .before .before .before .before .room .result) (c .before .before .before .before .before .before .before .before .before .before .loop .out) (c .before .before .before .before .before .one-field .last .1 .1 .0) (c .before .before .before .before .before .one-field .kept .1 .1 .0) ∙ c .before .before .before .before .before .before .before .before .before .before .loop .inv .loop .same ∙ c .before .before .before .before .before .before .before .before .before .before .before .before .before .put .kept .0
 
 fields-returns : (t : ℕ) → fields-lts.Need-returns (read2-reads.Asked, read2-reads.Learnt, put-reads.Asked, put-reads.Learnt, room-reads.Asked, room-reads.Learnt, one-field-below t, one-field.Post, joined-reads.Asked, joined-reads.Learnt, field-reach-reads.Asked, field-reach-reads.Learnt) (fields-at t) fields.Post fields-Inv-loop fields-μ-loop
-fields-returns t c = loop-no _ _ _ _ _ _ _ _ _ (c .before .before .before .before .before .before .before .before .before .before .loop .inv .loop) (c .before .before .before .before .before .before .before .before .before .loop-test .taken) _ _ _ (wrote-eq _ _ _ _ (both-second _ _ _) (rw (c .before .e .given .1, tail-is) at (c .before .before .before .before .before .one-field .ensures)))
+fields-returns t c = loop-no _ _ _ _ _ _ _ _ _ (c .before .before .before .before .before .before .before .before .before .before .loop .inv .loop) (c .before .before .before .before .before .before .before .before .before .loop-test .taken) _ _ _ (wrote-eq _ _ _ _ (both-second _ _ _) (rw (c .before .e .given .1, part-to-end) at (c .before .before .before .before .before .one-field .ensures)))
 
 fields-sub-field-reach : (t : ℕ) → fields-lts.Need-sub-field-reach (read2-reads.Asked, read2-reads.Learnt, put-reads.Asked, put-reads.Learnt, room-reads.Asked, room-reads.Learnt, one-field-below t, one-field.Post, joined-reads.Asked, joined-reads.Learnt, field-reach-reads.Asked, field-reach-reads.Learnt) (fields-at t) fields.Post fields-Inv-loop fields-μ-loop
 fields-sub-field-reach t c = c .before .before .before .before .before .before .before .before .before .before .before .loop .inv .loop .inside
@@ -555,10 +556,10 @@ fields-sub-field-reach-2 : (t : ℕ) → fields-lts.Need-sub-field-reach-2 (read
 fields-sub-field-reach-2 t c = schema-there _ _ (ready-reads _ _ (c .before .before .before .before .before .before .before .before .before .before .before .before .before .before .before .before .before .before .before .before .before .before .before .pre .1 .0)) .0
 
 fields-field-reach-requires : (t : ℕ) → fields-lts.Need-field-reach-requires (read2-reads.Asked, read2-reads.Learnt, put-reads.Asked, put-reads.Learnt, room-reads.Asked, room-reads.Learnt, one-field-below t, one-field.Post, joined-reads.Asked, joined-reads.Learnt, field-reach-reads.Asked, field-reach-reads.Learnt) (fields-at t) fields.Post fields-Inv-loop fields-μ-loop
-fields-field-reach-requires t c κs = rw tail-is (loop-first _ _ _ _ _ _ _ _ _ (c .before .before .before .before .before .before .before .before .before .before .before .before .loop .inv .loop) (c .before .before .before .before .before .before .before .before .before .before .before .loop-test .taken))
+fields-field-reach-requires t c κs = rw part-to-end (loop-first _ _ _ _ _ _ _ _ _ (c .before .before .before .before .before .before .before .before .before .before .before .before .loop .inv .loop) (c .before .before .before .before .before .before .before .before .before .before .before .loop-test .taken))
 
 fields-add-from : (t : ℕ) → fields-lts.Need-add-from (read2-reads.Asked, read2-reads.Learnt, put-reads.Asked, put-reads.Learnt, room-reads.Asked, room-reads.Learnt, one-field-below t, one-field.Post, joined-reads.Asked, joined-reads.Learnt, field-reach-reads.Asked, field-reach-reads.Learnt) (fields-at t) fields.Post fields-Inv-loop fields-μ-loop
-fields-add-from t c = let h = loop-within _ _ _ _ _ _ _ _ _ (c .before .before .before .before .before .before .before .before .before .before .before .before .before .loop .inv .loop) _ (rw tail-is at (c .field-reach .ensures .0)) in omega arith
+fields-add-from t c = let h = loop-within _ _ _ _ _ _ _ _ _ (c .before .before .before .before .before .before .before .before .before .before .before .before .before .loop .inv .loop) _ (rw part-to-end at (c .field-reach .ensures .0)) in omega arith
 
 fields-sub-left : (t : ℕ) → fields-lts.Need-sub-left (read2-reads.Asked, read2-reads.Learnt, put-reads.Asked, put-reads.Learnt, room-reads.Asked, room-reads.Learnt, one-field-below t, one-field.Post, joined-reads.Asked, joined-reads.Learnt, field-reach-reads.Asked, field-reach-reads.Learnt) (fields-at t) fields.Post fields-Inv-loop fields-μ-loop
 fields-sub-left t c = search needs
@@ -567,7 +568,7 @@ fields-loop-less : (t : ℕ) → fields-lts.Need-loop-less (read2-reads.Asked, r
 fields-loop-less t c = search needs
 
 fields-loop-again : (t : ℕ) → fields-lts.Need-loop-again (read2-reads.Asked, read2-reads.Learnt, put-reads.Asked, put-reads.Learnt, room-reads.Asked, room-reads.Learnt, one-field-below t, one-field.Post, joined-reads.Asked, joined-reads.Learnt, field-reach-reads.Asked, field-reach-reads.Learnt) (fields-at t) fields.Post fields-Inv-loop fields-μ-loop
-fields-loop-again t c = fields-step _ _ _ _ _ _ _ _ _ (c .before .before .before .before .before .before .before .before .before .before .before .before .before .loop .inv) (c .before .before .before .before .before .before .before .before .before .before .before .before .loop-test .taken) _ (rw tail-is at (c .field-reach .ensures .0)) (rw tail-is at (c .field-reach .ensures .1)) _ _ _ _ (c .before .before .before .before .before .before .before .before .before .before .before .room .ensures) (c .before .before .before .before .before .before .before .before .one-field .kept .1 .1 .0) (wrote-eq _ _ _ _ (both-second _ _ _) (rw (c .before .before .before .before .m .given .1, tail-is) at (c .before .before .before .before .before .before .before .before .one-field .ensures))) (c .before .before .joined .ensures)
+fields-loop-again t c = fields-step _ _ _ _ _ _ _ _ _ (c .before .before .before .before .before .before .before .before .before .before .before .before .before .loop .inv) (c .before .before .before .before .before .before .before .before .before .before .before .before .loop-test .taken) _ (rw part-to-end at (c .field-reach .ensures .0)) (rw part-to-end at (c .field-reach .ensures .1)) _ _ _ _ (c .before .before .before .before .before .before .before .before .before .before .before .room .ensures) (c .before .before .before .before .before .before .before .before .one-field .kept .1 .1 .0) (wrote-eq _ _ _ _ (both-second _ _ _) (rw (c .before .before .before .before .m .given .1, part-to-end) at (c .before .before .before .before .before .before .before .before .one-field .ensures))) (c .before .before .joined .ensures)
 
 fields-same-length-2 : (t : ℕ) → fields-lts.Need-same-length-2 (read2-reads.Asked, read2-reads.Learnt, put-reads.Asked, put-reads.Learnt, room-reads.Asked, room-reads.Learnt, one-field-below t, one-field.Post, joined-reads.Asked, joined-reads.Learnt, field-reach-reads.Asked, field-reach-reads.Learnt) (fields-at t) fields.Post fields-Inv-loop fields-μ-loop
 fields-same-length-2 t c = c .before .loop .inv .loop .same ∙ c .before .before .before .before .put .kept .0
@@ -621,10 +622,10 @@ find-any-sub-schema-len-2 t c = ready-deep (c .before .before .before .before .b
 
 find-any-schema-len-requires : (t : ℕ) → find-any-lts.Need-schema-len-requires (read2-reads.Asked, read2-reads.Learnt, named-at-reads.Asked, named-at-reads.Learnt, try-any-below t, try-any.Post, schema-len-reads.Asked, schema-len-reads.Learnt) (find-any-at t) find-any.Post find-any-Inv-loop find-any-μ-loop
 unfolding Reads
-find-any-schema-len-requires t c κs = rw tail-is (variant-reads (c .before .before .before .before .before .before .before .before .before .before .before .before .before .before .args .ds) (c .before .before .before .before .before .before .before .before .before .before .before .before .before .before .args .s .now) (c .before .before .before .before .before .before .before .before .before .before .before .before .before .before .pre .1 .0) (c .before .before .before .before .before .before .before .before .before .before .before .before .before .before .pre .1 .2) (c .before .before .before .before .before .before .before .before .loop .i) (c .before .before .before .before .before .before .before .before .loop .from) (c .before .before .before .before .before .before .before .before .loop .inv .1 .0) (omega (arith, c .before .before .before .before .before .before .before .if1 .left, c .before .before .before .before .before .before .before .before .before .before .read2 .ensures, ready-count (c .before .before .before .before .before .before .before .before .before .before .before .before .before .before .args .ds) (c .before .before .before .before .before .before .before .before .before .before .before .before .before .before .args .s .now) (c .before .before .before .before .before .before .before .before .before .before .before .before .before .before .pre .1 .0) (c .before .before .before .before .before .before .before .before .before .before .before .before .before .before .pre .1 .2))))
+find-any-schema-len-requires t c κs = rw part-to-end (variant-reads (c .before .before .before .before .before .before .before .before .before .before .before .before .before .before .args .ds) (c .before .before .before .before .before .before .before .before .before .before .before .before .before .before .args .s .now) (c .before .before .before .before .before .before .before .before .before .before .before .before .before .before .pre .1 .0) (c .before .before .before .before .before .before .before .before .before .before .before .before .before .before .pre .1 .2) (c .before .before .before .before .before .before .before .before .loop .i) (c .before .before .before .before .before .before .before .before .loop .from) (c .before .before .before .before .before .before .before .before .loop .inv .1 .0) (omega (arith, c .before .before .before .before .before .before .before .if1 .left, c .before .before .before .before .before .before .before .before .before .before .read2 .ensures, ready-count (c .before .before .before .before .before .before .before .before .before .before .before .before .before .before .args .ds) (c .before .before .before .before .before .before .before .before .before .before .before .before .before .before .args .s .now) (c .before .before .before .before .before .before .before .before .before .before .before .before .before .before .pre .1 .0) (c .before .before .before .before .before .before .before .before .before .before .before .before .before .before .pre .1 .2))))
 
 find-any-add-from : (t : ℕ) → find-any-lts.Need-add-from (read2-reads.Asked, read2-reads.Learnt, named-at-reads.Asked, named-at-reads.Learnt, try-any-below t, try-any.Post, schema-len-reads.Asked, schema-len-reads.Learnt) (find-any-at t) find-any.Post find-any-Inv-loop find-any-μ-loop
-find-any-add-from t c = omega (arith, spans-le _ _ _ (rw tail-is at (c .schema-len .ensures)), length-drop (c .before .before .before .before .before .before .before .before .before .loop .from) (c .before .before .before .before .before .before .before .before .before .before .before .before .before .before .before .args .s .now), c .before .before .before .before .before .before .before .before .before .loop .inv .1 .0 .inside)
+find-any-add-from t c = omega (arith, spans-le _ _ _ (rw part-to-end at (c .schema-len .ensures)), length-drop (c .before .before .before .before .before .before .before .before .before .loop .from) (c .before .before .before .before .before .before .before .before .before .before .before .before .before .before .before .args .s .now), c .before .before .before .before .before .before .before .before .before .loop .inv .1 .0 .inside)
 
 find-any-add-i : (t : ℕ) → find-any-lts.Need-add-i (read2-reads.Asked, read2-reads.Learnt, named-at-reads.Asked, named-at-reads.Learnt, try-any-below t, try-any.Post, schema-len-reads.Asked, schema-len-reads.Learnt) (find-any-at t) find-any.Post find-any-Inv-loop find-any-μ-loop
 find-any-add-i t c = omega (arith, c .before .before .before .before .before .before .before .before .if1 .left)
@@ -634,7 +635,7 @@ find-any-loop-less t c = omega (arith, c .before .before .before .before .before
 
 find-any-loop-again : (t : ℕ) → find-any-lts.Need-loop-again (read2-reads.Asked, read2-reads.Learnt, named-at-reads.Asked, named-at-reads.Learnt, try-any-below t, try-any.Post, schema-len-reads.Asked, schema-len-reads.Learnt) (find-any-at t) find-any.Post find-any-Inv-loop find-any-μ-loop
 unfolding Reads
-find-any-loop-again t c = (omega (arith, c .before .before .before .before .before .before .before .before .if1 .left), (passed-step (c .before .before .before .before .before .before .before .before .before .before .before .before .before .before .before .args .ds) (c .before .before .before .before .before .before .before .before .before .before .before .before .before .before .before .args .s .now) (c .before .before .before .before .before .before .before .before .before .loop .i) (c .before .before .before .before .before .before .before .before .before .loop .from) (c .before .before .before .before .before .before .before .before .before .loop .inv .1 .0) (omega (arith, c .before .before .before .before .before .before .before .before .if1 .left, c .before .before .before .before .before .before .before .before .before .before .before .read2 .ensures)) _ (rw tail-is at (c .schema-len .ensures)), (c .before .before .before .before .before .before .try-any .kept .1 .1 .0 ∙ c .before .before .before .before .before .before .before .before .before .loop .inv .1 .1 .0, searching-step (c .before .before .before .before .before .before .before .before .before .before .before .before .before .before .before .args .ds) (c .before .before .before .before .before .before .before .before .before .before .before .before .before .before .before .args .s .now) (c .before .before .before .before .before .before .before .before .before .before .before .before .before .before .before .pre .1 .0) (c .before .before .before .before .before .before .before .before .before .before .before .before .before .before .before .pre .1 .2) (c .before .before .before .before .before .before .before .before .before .before .before .before .before .before .before .args .dv) (c .before .before .before .before .before .before .before .before .before .before .before .before .before .before .before .args .v .now) (c .before .before .before .before .before .before .before .before .before .before .before .before .before .before .before .pre .1 .1 .0) (c .before .before .before .before .before .before .before .before .before .before .before .before .before .before .before .pre .1 .1 .1 .0) (c .before .before .before .before .before .before .before .before .before .before .before .before .before .before .before .pre .1 .1 .1 .1) (c .before .before .before .before .before .before .before .before .before .loop .i) (c .before .before .before .before .before .before .before .before .before .loop .inv .1 .1 .1) _ _ (rw (c .before .before .enum-told .given .1) at (c .before .before .before .before .before .before .try-any .ensures)))))
+find-any-loop-again t c = (omega (arith, c .before .before .before .before .before .before .before .before .if1 .left), (passed-step (c .before .before .before .before .before .before .before .before .before .before .before .before .before .before .before .args .ds) (c .before .before .before .before .before .before .before .before .before .before .before .before .before .before .before .args .s .now) (c .before .before .before .before .before .before .before .before .before .loop .i) (c .before .before .before .before .before .before .before .before .before .loop .from) (c .before .before .before .before .before .before .before .before .before .loop .inv .1 .0) (omega (arith, c .before .before .before .before .before .before .before .before .if1 .left, c .before .before .before .before .before .before .before .before .before .before .before .read2 .ensures)) _ (rw part-to-end at (c .schema-len .ensures)), (c .before .before .before .before .before .before .try-any .kept .1 .1 .0 ∙ c .before .before .before .before .before .before .before .before .before .loop .inv .1 .1 .0, searching-step (c .before .before .before .before .before .before .before .before .before .before .before .before .before .before .before .args .ds) (c .before .before .before .before .before .before .before .before .before .before .before .before .before .before .before .args .s .now) (c .before .before .before .before .before .before .before .before .before .before .before .before .before .before .before .pre .1 .0) (c .before .before .before .before .before .before .before .before .before .before .before .before .before .before .before .pre .1 .2) (c .before .before .before .before .before .before .before .before .before .before .before .before .before .before .before .args .dv) (c .before .before .before .before .before .before .before .before .before .before .before .before .before .before .before .args .v .now) (c .before .before .before .before .before .before .before .before .before .before .before .before .before .before .before .pre .1 .1 .0) (c .before .before .before .before .before .before .before .before .before .before .before .before .before .before .before .pre .1 .1 .1 .0) (c .before .before .before .before .before .before .before .before .before .before .before .before .before .before .before .pre .1 .1 .1 .1) (c .before .before .before .before .before .before .before .before .before .loop .i) (c .before .before .before .before .before .before .before .before .before .loop .inv .1 .1 .1) _ _ (rw (c .before .before .enum-told .given .1) at (c .before .before .before .before .before .before .try-any .ensures)))))
 
 find-any-same-length : (t : ℕ) → find-any-lts.Need-same-length (read2-reads.Asked, read2-reads.Learnt, named-at-reads.Asked, named-at-reads.Learnt, try-any-below t, try-any.Post, schema-len-reads.Asked, schema-len-reads.Learnt) (find-any-at t) find-any.Post find-any-Inv-loop find-any-μ-loop
 find-any-same-length t c = c .before .loop .inv .1 .1 .0
@@ -732,7 +733,7 @@ indexed-sub-trial-2 t c = ready-deep (c .before .before .before .before .before 
 
 indexed-trial-requires : (t : ℕ) → indexed-lts.Need-trial-requires (variant-at-reads.Asked, variant-at-reads.Learnt, trial-below t, trial.Post, put-index-reads.Asked, put-index-reads.Learnt) (indexed-at t) indexed.Post
 unfolding Reads
-indexed-trial-requires t c κs = (omega (arith, c .before .before .before .before .before .before .pre .0, ready-deep (c .before .before .before .before .before .before .args .ds) (c .before .before .before .before .before .before .args .s .now) (c .before .before .before .before .before .before .pre .1 .0) (c .before .before .before .before .before .before .pre .1 .2)), (rw tail-is (variant-ready (c .before .before .before .before .before .before .args .ds) (c .before .before .before .before .before .before .args .s .now) (c .before .before .before .before .before .before .pre .1 .0) (c .before .before .before .before .before .before .pre .1 .2) (c .before .before .before .before .before .before .args .i) (c .before .before .variant-at .result) (c .before .before .variant-at .ensures) (ready-below (c .before .before .before .before .before .before .args .ds) (c .before .before .before .before .before .before .args .s .now) (c .before .before .before .before .before .before .pre .1 .0) (c .before .before .before .before .before .before .pre .1 .2) (c .before .before .before .before .before .before .args .i) (c .before .before .before .before .before .before .pre .1 .3))), c .before .before .before .before .before .before .pre .1 .1))
+indexed-trial-requires t c κs = (omega (arith, c .before .before .before .before .before .before .pre .0, ready-deep (c .before .before .before .before .before .before .args .ds) (c .before .before .before .before .before .before .args .s .now) (c .before .before .before .before .before .before .pre .1 .0) (c .before .before .before .before .before .before .pre .1 .2)), (rw part-to-end (variant-ready (c .before .before .before .before .before .before .args .ds) (c .before .before .before .before .before .before .args .s .now) (c .before .before .before .before .before .before .pre .1 .0) (c .before .before .before .before .before .before .pre .1 .2) (c .before .before .before .before .before .before .args .i) (c .before .before .variant-at .result) (c .before .before .variant-at .ensures) (ready-below (c .before .before .before .before .before .before .args .ds) (c .before .before .before .before .before .before .args .s .now) (c .before .before .before .before .before .before .pre .1 .0) (c .before .before .before .before .before .before .pre .1 .2) (c .before .before .before .before .before .before .args .i) (c .before .before .before .before .before .before .pre .1 .3))), c .before .before .before .before .before .before .pre .1 .1))
 
 indexed-enum-known-m : (t : ℕ) → indexed-lts.Need-enum-known-m (variant-at-reads.Asked, variant-at-reads.Learnt, trial-below t, trial.Post, put-index-reads.Asked, put-index-reads.Learnt) (indexed-at t) indexed.Post
 indexed-enum-known-m t c = search needs
@@ -749,14 +750,14 @@ indexed-same-length t c = search needs
 
 indexed-returns : (t : ℕ) → indexed-lts.Need-returns (variant-at-reads.Asked, variant-at-reads.Learnt, trial-below t, trial.Post, put-index-reads.Asked, put-index-reads.Learnt) (indexed-at t) indexed.Post
 unfolding Reads
-indexed-returns t c = variant-accepted (c .before .before .before .before .before .before .before .before .before .before .before .before .before .before .before .before .args .ds) (c .before .before .before .before .before .before .before .before .before .before .before .before .before .before .before .before .args .s .now) (c .before .before .before .before .before .before .before .before .before .before .before .before .before .before .before .before .pre .1 .0) (c .before .before .before .before .before .before .before .before .before .before .before .before .before .before .before .before .pre .1 .2) (c .before .before .before .before .before .before .before .before .before .before .before .before .before .before .before .before .args .dv) (c .before .before .before .before .before .before .before .before .before .before .before .before .before .before .before .before .args .v .now) (c .before .before .before .before .before .before .before .before .before .before .before .before .before .before .before .before .pre .1 .1 .0) (c .before .before .before .before .before .before .before .before .before .before .before .before .before .before .before .before .pre .1 .1 .1 .0) (c .before .before .before .before .before .before .before .before .before .before .before .before .before .before .before .before .pre .1 .1 .1 .1) (c .before .before .before .before .before .before .before .before .before .before .before .before .before .before .before .before .args .i) (c .before .before .before .before .before .before .before .before .before .before .before .before .variant-at .result) (c .before .before .before .before .before .before .before .before .before .before .before .before .variant-at .ensures) (ready-below (c .before .before .before .before .before .before .before .before .before .before .before .before .before .before .before .before .args .ds) (c .before .before .before .before .before .before .before .before .before .before .before .before .before .before .before .before .args .s .now) (c .before .before .before .before .before .before .before .before .before .before .before .before .before .before .before .before .pre .1 .0) (c .before .before .before .before .before .before .before .before .before .before .before .before .before .before .before .before .pre .1 .2) (c .before .before .before .before .before .before .before .before .before .before .before .before .before .before .before .before .args .i) (c .before .before .before .before .before .before .before .before .before .before .before .before .before .before .before .before .pre .1 .3)) (c .before .before .before .before .before .before .before .before .before .trial .last .1 .1 .0) _ (c .before .before .before .before .before .m .given .0 .0) _ (rw (c .before .before .before .before .before .m .given .1, tail-is) at (c .before .before .before .before .before .before .before .before .before .trial .ensures)) (c .before .before .put-index .ensures)
+indexed-returns t c = variant-accepted (c .before .before .before .before .before .before .before .before .before .before .before .before .before .before .before .before .args .ds) (c .before .before .before .before .before .before .before .before .before .before .before .before .before .before .before .before .args .s .now) (c .before .before .before .before .before .before .before .before .before .before .before .before .before .before .before .before .pre .1 .0) (c .before .before .before .before .before .before .before .before .before .before .before .before .before .before .before .before .pre .1 .2) (c .before .before .before .before .before .before .before .before .before .before .before .before .before .before .before .before .args .dv) (c .before .before .before .before .before .before .before .before .before .before .before .before .before .before .before .before .args .v .now) (c .before .before .before .before .before .before .before .before .before .before .before .before .before .before .before .before .pre .1 .1 .0) (c .before .before .before .before .before .before .before .before .before .before .before .before .before .before .before .before .pre .1 .1 .1 .0) (c .before .before .before .before .before .before .before .before .before .before .before .before .before .before .before .before .pre .1 .1 .1 .1) (c .before .before .before .before .before .before .before .before .before .before .before .before .before .before .before .before .args .i) (c .before .before .before .before .before .before .before .before .before .before .before .before .variant-at .result) (c .before .before .before .before .before .before .before .before .before .before .before .before .variant-at .ensures) (ready-below (c .before .before .before .before .before .before .before .before .before .before .before .before .before .before .before .before .args .ds) (c .before .before .before .before .before .before .before .before .before .before .before .before .before .before .before .before .args .s .now) (c .before .before .before .before .before .before .before .before .before .before .before .before .before .before .before .before .pre .1 .0) (c .before .before .before .before .before .before .before .before .before .before .before .before .before .before .before .before .pre .1 .2) (c .before .before .before .before .before .before .before .before .before .before .before .before .before .before .before .before .args .i) (c .before .before .before .before .before .before .before .before .before .before .before .before .before .before .before .before .pre .1 .3)) (c .before .before .before .before .before .before .before .before .before .trial .last .1 .1 .0) _ (c .before .before .before .before .before .m .given .0 .0) _ (rw (c .before .before .before .before .before .m .given .1, part-to-end) at (c .before .before .before .before .before .before .before .before .before .trial .ensures)) (c .before .before .put-index .ensures)
 
 indexed-same-length-2 : (t : ℕ) → indexed-lts.Need-same-length-2 (variant-at-reads.Asked, variant-at-reads.Learnt, trial-below t, trial.Post, put-index-reads.Asked, put-index-reads.Learnt) (indexed-at t) indexed.Post
 indexed-same-length-2 t c = search needs
 
 indexed-returns-2 : (t : ℕ) → indexed-lts.Need-returns-2 (variant-at-reads.Asked, variant-at-reads.Learnt, trial-below t, trial.Post, put-index-reads.Asked, put-index-reads.Learnt) (indexed-at t) indexed.Post
 unfolding Reads
-indexed-returns-2 t c = variant-refused (c .before .before .before .before .before .before .before .before .before .before .before .before .args .ds) (c .before .before .before .before .before .before .before .before .before .before .before .before .args .s .now) (c .before .before .before .before .before .before .before .before .before .before .before .before .pre .1 .0) (c .before .before .before .before .before .before .before .before .before .before .before .before .pre .1 .2) (c .before .before .before .before .before .before .before .before .before .before .before .before .args .dv) (c .before .before .before .before .before .before .before .before .before .before .before .before .args .v .now) (c .before .before .before .before .before .before .before .before .before .before .before .before .pre .1 .1 .0) (c .before .before .before .before .before .before .before .before .before .before .before .before .pre .1 .1 .1 .0) (c .before .before .before .before .before .before .before .before .before .before .before .before .pre .1 .1 .1 .1) (c .before .before .before .before .before .before .before .before .before .before .before .before .args .i) (c .before .before .before .before .before .before .before .before .variant-at .result) (c .before .before .before .before .before .before .before .before .variant-at .ensures) (ready-below (c .before .before .before .before .before .before .before .before .before .before .before .before .args .ds) (c .before .before .before .before .before .before .before .before .before .before .before .before .args .s .now) (c .before .before .before .before .before .before .before .before .before .before .before .before .pre .1 .0) (c .before .before .before .before .before .before .before .before .before .before .before .before .pre .1 .2) (c .before .before .before .before .before .before .before .before .before .before .before .before .args .i) (c .before .before .before .before .before .before .before .before .before .before .before .before .pre .1 .3)) _ _ _ (rw (c .before .e .given .1, tail-is) at (c .before .before .before .before .before .trial .ensures))
+indexed-returns-2 t c = variant-refused (c .before .before .before .before .before .before .before .before .before .before .before .before .args .ds) (c .before .before .before .before .before .before .before .before .before .before .before .before .args .s .now) (c .before .before .before .before .before .before .before .before .before .before .before .before .pre .1 .0) (c .before .before .before .before .before .before .before .before .before .before .before .before .pre .1 .2) (c .before .before .before .before .before .before .before .before .before .before .before .before .args .dv) (c .before .before .before .before .before .before .before .before .before .before .before .before .args .v .now) (c .before .before .before .before .before .before .before .before .before .before .before .before .pre .1 .1 .0) (c .before .before .before .before .before .before .before .before .before .before .before .before .pre .1 .1 .1 .0) (c .before .before .before .before .before .before .before .before .before .before .before .before .pre .1 .1 .1 .1) (c .before .before .before .before .before .before .before .before .before .before .before .before .args .i) (c .before .before .before .before .before .before .before .before .variant-at .result) (c .before .before .before .before .before .before .before .before .variant-at .ensures) (ready-below (c .before .before .before .before .before .before .before .before .before .before .before .before .args .ds) (c .before .before .before .before .before .before .before .before .before .before .before .before .args .s .now) (c .before .before .before .before .before .before .before .before .before .before .before .before .pre .1 .0) (c .before .before .before .before .before .before .before .before .before .before .before .before .pre .1 .2) (c .before .before .before .before .before .before .before .before .before .before .before .before .args .i) (c .before .before .before .before .before .before .before .before .before .before .before .before .pre .1 .3)) _ _ _ (rw (c .before .e .given .1, part-to-end) at (c .before .before .before .before .before .trial .ensures))
 
 keyed-read2-requires : (t : ℕ) → keyed-lts.Need-read2-requires (read2-reads.Asked, read2-reads.Learnt, fields-below t, fields.Post, mark-reads.Asked, mark-reads.Learnt) (keyed-at t) keyed.Post
 keyed-read2-requires t c κs = keyed-length _ _ (c .before .before .before .pre .1 .1) (c .before .before .before .pre .1 .3)
@@ -869,7 +870,7 @@ one-field-sub-resolve-node-4 : (t : ℕ) → one-field-lts.Need-sub-resolve-node
 one-field-sub-resolve-node-4 t c = value-there _ _ (c .before .before .before .before .before .before .before .before .before .before .before .before .before .before .before .before .before .before .before .pre .1 .1) .0
 
 one-field-resolve-node-requires : (t : ℕ) → one-field-lts.Need-resolve-node-requires (content-reads.Asked, content-reads.Learnt, put-reads.Asked, put-reads.Learnt, room-reads.Asked, room-reads.Learnt, field-at-reads.Asked, field-at-reads.Learnt, find-in-reads.Asked, find-in-reads.Learnt, resolve-node-below t, resolve-node.Post, joined-reads.Asked, joined-reads.Learnt, default-below t, default.Post) (one-field-at t) one-field.Post
-one-field-resolve-node-requires t c κs = (omega (arith, c .before .before .before .before .before .before .before .before .before .before .before .before .before .before .before .before .before .before .before .pre .0), (rw tail-is (field-schema _ _ (c .before .before .before .before .before .before .before .before .before .before .before .before .before .before .before .before .before .before .before .pre .1 .0) _ (c .before .before .before .before .before .before .before .field-at .ensures)), rw tail-is (found-value _ _ (c .before .before .before .before .before .before .before .before .before .before .before .before .before .before .before .before .before .before .before .pre .1 .0) _ (c .before .before .before .before .before .before .before .field-at .ensures) _ _ _ (c .before .before .before .before .before .before .before .before .before .before .before .before .before .before .before .before .before .before .before .pre .1 .1) (getD-allBytes (c .before .before .before .before .before .before .before .before .before .before .before .before .before .before .before .before .before .before .before .args .s .now) (λ i. omega (arith, c .before .before .before .before .before .before .before .before .before .before .before .before .before .before .before .before .before .before .shared-slice-known .given i))) (c .before .before .before .before .before .before .before .before .before .before .before .before .before .before .content .ensures .0) _ (rw (c .before .before .before .before .p .given .1) at (c .before .before .before .before .before .before .find-in .ensures)))))
+one-field-resolve-node-requires t c κs = (omega (arith, c .before .before .before .before .before .before .before .before .before .before .before .before .before .before .before .before .before .before .before .pre .0), (rw part-to-end (field-schema _ _ (c .before .before .before .before .before .before .before .before .before .before .before .before .before .before .before .before .before .before .before .pre .1 .0) _ (c .before .before .before .before .before .before .before .field-at .ensures)), rw part-to-end (found-value _ _ (c .before .before .before .before .before .before .before .before .before .before .before .before .before .before .before .before .before .before .before .pre .1 .0) _ (c .before .before .before .before .before .before .before .field-at .ensures) _ _ _ (c .before .before .before .before .before .before .before .before .before .before .before .before .before .before .before .before .before .before .before .pre .1 .1) (getD-allBytes (c .before .before .before .before .before .before .before .before .before .before .before .before .before .before .before .before .before .before .before .args .s .now) (λ i. omega (arith, c .before .before .before .before .before .before .before .before .before .before .before .before .before .before .before .before .before .before .shared-slice-known .given i))) (c .before .before .before .before .before .before .before .before .before .before .before .before .before .before .content .ensures .0) _ (rw (c .before .before .before .before .p .given .1) at (c .before .before .before .before .before .before .find-in .ensures)))))
 
 one-field-enum-known-m : (t : ℕ) → one-field-lts.Need-enum-known-m (content-reads.Asked, content-reads.Learnt, put-reads.Asked, put-reads.Learnt, room-reads.Asked, room-reads.Learnt, field-at-reads.Asked, field-at-reads.Learnt, find-in-reads.Asked, find-in-reads.Learnt, resolve-node-below t, resolve-node.Post, joined-reads.Asked, joined-reads.Learnt, default-below t, default.Post) (one-field-at t) one-field.Post
 one-field-enum-known-m t c = search needs
@@ -917,7 +918,7 @@ one-field-part-default-end-3 : (t : ℕ) → one-field-lts.Need-part-default-end
 one-field-part-default-end-3 t c = search needs
 
 one-field-default-requires : (t : ℕ) → one-field-lts.Need-default-requires (content-reads.Asked, content-reads.Learnt, put-reads.Asked, put-reads.Learnt, room-reads.Asked, room-reads.Learnt, field-at-reads.Asked, field-at-reads.Learnt, find-in-reads.Asked, find-in-reads.Learnt, resolve-node-below t, resolve-node.Post, joined-reads.Asked, joined-reads.Learnt, default-below t, default.Post) (one-field-at t) one-field.Post
-one-field-default-requires t c κs = (omega (arith, c .before .before .before .before .before .before .before .before .before .before .before .before .before .before .before .before .before .before .before .before .pre .0), rw (tail-is, tail-is) (field-default _ _ (c .before .before .before .before .before .before .before .before .before .before .before .before .before .before .before .before .before .before .before .before .pre .1 .0) _ (c .before .before .before .before .before .before .before .before .field-at .ensures) (not-false _ (c .before .before .before .if1 .left))))
+one-field-default-requires t c κs = (omega (arith, c .before .before .before .before .before .before .before .before .before .before .before .before .before .before .before .before .before .before .before .before .pre .0), rw (part-to-end, part-to-end) (field-default _ _ (c .before .before .before .before .before .before .before .before .before .before .before .before .before .before .before .before .before .before .before .before .pre .1 .0) _ (c .before .before .before .before .before .before .before .before .field-at .ensures) (not-false _ (c .before .before .before .if1 .left))))
 
 one-field-enum-known-m-2 : (t : ℕ) → one-field-lts.Need-enum-known-m-2 (content-reads.Asked, content-reads.Learnt, put-reads.Asked, put-reads.Learnt, room-reads.Asked, room-reads.Learnt, field-at-reads.Asked, field-at-reads.Learnt, find-in-reads.Asked, find-in-reads.Learnt, resolve-node-below t, resolve-node.Post, joined-reads.Asked, joined-reads.Learnt, default-below t, default.Post) (one-field-at t) one-field.Post
 one-field-enum-known-m-2 t c = search needs
@@ -932,25 +933,25 @@ one-field-same-length-2 : (t : ℕ) → one-field-lts.Need-same-length-2 (conten
 one-field-same-length-2 t c = same-len-mid {X = ℕ} (c .before .before .before .before .before .before .before .before .before .before .before .before .before .before .before .room .result) (length (c .before .before .before .before .before .before .before .before .before .before .before .before .before .before .before .before .before .before .put .last .0) - c .before .before .before .before .before .before .before .before .before .before .before .before .before .before .before .room .result) (c .before .before .before .before .before .before .before .before .before .before .before .before .before .before .before .before .before .before .put .last .0) (c .before .before .before .before .before .before .resolve-node .last .1 .1 .0) (c .before .before .before .before .before .before .resolve-node .kept .1 .1 .0) ∙ c .before .before .before .before .before .before .before .before .before .before .before .before .before .before .before .before .before .before .put .kept .0
 
 one-field-returns-2 : (t : ℕ) → one-field-lts.Need-returns-2 (content-reads.Asked, content-reads.Learnt, put-reads.Asked, put-reads.Learnt, room-reads.Asked, room-reads.Learnt, field-at-reads.Asked, field-at-reads.Learnt, find-in-reads.Asked, find-in-reads.Learnt, resolve-node-below t, resolve-node.Post, joined-reads.Asked, joined-reads.Learnt, default-below t, default.Post) (one-field-at t) one-field.Post
-one-field-returns-2 t c = wrote-last _ _ _ _ _ _ _ _ _ (c .before .before .before .before .before .before .before .before .before .before .before .before .before .before .before .before .before .before .put .ensures) (field-found _ _ (c .before .before .before .before .before .before .before .before .before .before .before .before .before .before .before .before .before .before .before .before .before .before .before .before .before .before .pre .1 .0) _ (c .before .before .before .before .before .before .before .before .before .before .before .before .before .before .field-at .ensures) _ _ _ (c .before .before .before .before .before .before .before .before .before .before .before .before .before .before .before .before .before .before .before .before .before .before .before .before .before .before .pre .1 .1) (getD-allBytes (c .before .before .before .before .before .before .before .before .before .before .before .before .before .before .before .before .before .before .before .before .before .before .before .before .before .before .args .s .now) (λ i. omega (arith, c .before .before .before .before .before .before .before .before .before .before .before .before .before .before .before .before .before .before .before .before .before .before .before .before .before .shared-slice-known .given i))) (c .before .before .before .before .before .before .before .before .before .before .before .before .before .before .before .before .before .before .before .before .before .content .ensures .0) _ (rw (c .before .before .before .before .before .before .before .before .before .before .before .p .given .1) at (c .before .before .before .before .before .before .before .before .before .before .before .before .before .find-in .ensures))) (c .before .before .before .before .before .before .before .before .before .before .before .before .before .before .before .room .ensures) (c .before .before .before .before .before .before .resolve-node .kept .1 .1 .0) (rw (c .before .before .m .given .1, tail-is, tail-is) at (c .before .before .before .before .before .before .resolve-node .ensures)) (c .joined .ensures)
+one-field-returns-2 t c = wrote-last _ _ _ _ _ _ _ _ _ (c .before .before .before .before .before .before .before .before .before .before .before .before .before .before .before .before .before .before .put .ensures) (field-found _ _ (c .before .before .before .before .before .before .before .before .before .before .before .before .before .before .before .before .before .before .before .before .before .before .before .before .before .before .pre .1 .0) _ (c .before .before .before .before .before .before .before .before .before .before .before .before .before .before .field-at .ensures) _ _ _ (c .before .before .before .before .before .before .before .before .before .before .before .before .before .before .before .before .before .before .before .before .before .before .before .before .before .before .pre .1 .1) (getD-allBytes (c .before .before .before .before .before .before .before .before .before .before .before .before .before .before .before .before .before .before .before .before .before .before .before .before .before .before .args .s .now) (λ i. omega (arith, c .before .before .before .before .before .before .before .before .before .before .before .before .before .before .before .before .before .before .before .before .before .before .before .before .before .shared-slice-known .given i))) (c .before .before .before .before .before .before .before .before .before .before .before .before .before .before .before .before .before .before .before .before .before .content .ensures .0) _ (rw (c .before .before .before .before .before .before .before .before .before .before .before .p .given .1) at (c .before .before .before .before .before .before .before .before .before .before .before .before .before .find-in .ensures))) (c .before .before .before .before .before .before .before .before .before .before .before .before .before .before .before .room .ensures) (c .before .before .before .before .before .before .resolve-node .kept .1 .1 .0) (rw (c .before .before .m .given .1, part-to-end, part-to-end) at (c .before .before .before .before .before .before .resolve-node .ensures)) (c .joined .ensures)
 
 one-field-same-length-3 : (t : ℕ) → one-field-lts.Need-same-length-3 (content-reads.Asked, content-reads.Learnt, put-reads.Asked, put-reads.Learnt, room-reads.Asked, room-reads.Learnt, field-at-reads.Asked, field-at-reads.Learnt, find-in-reads.Asked, find-in-reads.Learnt, resolve-node-below t, resolve-node.Post, joined-reads.Asked, joined-reads.Learnt, default-below t, default.Post) (one-field-at t) one-field.Post
 one-field-same-length-3 t c = same-len-mid {X = ℕ} (c .before .before .before .before .before .before .before .before .before .before .before .before .before .before .room .result) (length (c .before .before .before .before .before .before .before .before .before .before .before .before .before .before .before .before .before .put .last .0) - c .before .before .before .before .before .before .before .before .before .before .before .before .before .before .room .result) (c .before .before .before .before .before .before .before .before .before .before .before .before .before .before .before .before .before .put .last .0) (c .before .before .before .before .before .resolve-node .last .1 .1 .0) (c .before .before .before .before .before .resolve-node .kept .1 .1 .0) ∙ c .before .before .before .before .before .before .before .before .before .before .before .before .before .before .before .before .before .put .kept .0
 
 one-field-returns-3 : (t : ℕ) → one-field-lts.Need-returns-3 (content-reads.Asked, content-reads.Learnt, put-reads.Asked, put-reads.Learnt, room-reads.Asked, room-reads.Learnt, field-at-reads.Asked, field-at-reads.Learnt, find-in-reads.Asked, find-in-reads.Learnt, resolve-node-below t, resolve-node.Post, joined-reads.Asked, joined-reads.Learnt, default-below t, default.Post) (one-field-at t) one-field.Post
-one-field-returns-3 t c = wrote-last-no _ _ (take (length (c .before .before .before .before .before .before .before .before .before .before .before .before .before .before .before .before .before .before .before .before .content .result .now) + 2) (c .before .before .before .before .before .before .before .before .before .before .before .before .before .before .before .before .before .before .before .before .before .before .before .before .before .args .s .now)) _ _ _ (field-found _ _ (c .before .before .before .before .before .before .before .before .before .before .before .before .before .before .before .before .before .before .before .before .before .before .before .before .before .pre .1 .0) _ (c .before .before .before .before .before .before .before .before .before .before .before .before .before .field-at .ensures) _ _ _ (c .before .before .before .before .before .before .before .before .before .before .before .before .before .before .before .before .before .before .before .before .before .before .before .before .before .pre .1 .1) (getD-allBytes (c .before .before .before .before .before .before .before .before .before .before .before .before .before .before .before .before .before .before .before .before .before .before .before .before .before .args .s .now) (λ i. omega (arith, c .before .before .before .before .before .before .before .before .before .before .before .before .before .before .before .before .before .before .before .before .before .before .before .before .shared-slice-known .given i))) (c .before .before .before .before .before .before .before .before .before .before .before .before .before .before .before .before .before .before .before .before .content .ensures .0) _ (rw (c .before .before .before .before .before .before .before .before .before .before .p .given .1) at (c .before .before .before .before .before .before .before .before .before .before .before .before .find-in .ensures))) (rw (c .before .e .given .1, tail-is, tail-is) at (c .before .before .before .before .before .resolve-node .ensures))
+one-field-returns-3 t c = wrote-last-no _ _ (take (length (c .before .before .before .before .before .before .before .before .before .before .before .before .before .before .before .before .before .before .before .before .content .result .now) + 2) (c .before .before .before .before .before .before .before .before .before .before .before .before .before .before .before .before .before .before .before .before .before .before .before .before .before .args .s .now)) _ _ _ (field-found _ _ (c .before .before .before .before .before .before .before .before .before .before .before .before .before .before .before .before .before .before .before .before .before .before .before .before .before .pre .1 .0) _ (c .before .before .before .before .before .before .before .before .before .before .before .before .before .field-at .ensures) _ _ _ (c .before .before .before .before .before .before .before .before .before .before .before .before .before .before .before .before .before .before .before .before .before .before .before .before .before .pre .1 .1) (getD-allBytes (c .before .before .before .before .before .before .before .before .before .before .before .before .before .before .before .before .before .before .before .before .before .before .before .before .before .args .s .now) (λ i. omega (arith, c .before .before .before .before .before .before .before .before .before .before .before .before .before .before .before .before .before .before .before .before .before .before .before .before .shared-slice-known .given i))) (c .before .before .before .before .before .before .before .before .before .before .before .before .before .before .before .before .before .before .before .before .content .ensures .0) _ (rw (c .before .before .before .before .before .before .before .before .before .before .p .given .1) at (c .before .before .before .before .before .before .before .before .before .before .before .before .find-in .ensures))) (rw (c .before .e .given .1, part-to-end, part-to-end) at (c .before .before .before .before .before .resolve-node .ensures))
 
 one-field-same-length-4 : (t : ℕ) → one-field-lts.Need-same-length-4 (content-reads.Asked, content-reads.Learnt, put-reads.Asked, put-reads.Learnt, room-reads.Asked, room-reads.Learnt, field-at-reads.Asked, field-at-reads.Learnt, find-in-reads.Asked, find-in-reads.Learnt, resolve-node-below t, resolve-node.Post, joined-reads.Asked, joined-reads.Learnt, default-below t, default.Post) (one-field-at t) one-field.Post
 one-field-same-length-4 t c = same-len-mid {X = ℕ} (c .before .before .before .before .before .before .before .before .before .before .before .before .before .before .before .before .room .result) (length (c .before .before .before .before .before .before .before .before .before .before .before .before .before .before .before .before .before .before .before .put .last .0) - c .before .before .before .before .before .before .before .before .before .before .before .before .before .before .before .before .room .result) (c .before .before .before .before .before .before .before .before .before .before .before .before .before .before .before .before .before .before .before .put .last .0) (c .before .before .before .before .before .before .default .last .1 .1 .0) (c .before .before .before .before .before .before .default .kept .1 .1 .0) ∙ c .before .before .before .before .before .before .before .before .before .before .before .before .before .before .before .before .before .before .before .put .kept .0
 
 one-field-returns-4 : (t : ℕ) → one-field-lts.Need-returns-4 (content-reads.Asked, content-reads.Learnt, put-reads.Asked, put-reads.Learnt, room-reads.Asked, room-reads.Learnt, field-at-reads.Asked, field-at-reads.Learnt, find-in-reads.Asked, find-in-reads.Learnt, resolve-node-below t, resolve-node.Post, joined-reads.Asked, joined-reads.Learnt, default-below t, default.Post) (one-field-at t) one-field.Post
-one-field-returns-4 t c = wrote-last _ _ _ _ _ _ _ _ _ (c .before .before .before .before .before .before .before .before .before .before .before .before .before .before .before .before .before .before .before .put .ensures) (field-defaults _ _ (c .before .before .before .before .before .before .before .before .before .before .before .before .before .before .before .before .before .before .before .before .before .before .before .before .before .before .before .pre .1 .0) _ (c .before .before .before .before .before .before .before .before .before .before .before .before .before .before .before .field-at .ensures) (not-false _ (c .before .before .before .before .before .before .before .before .before .before .if1 .left)) _ _ _ (c .before .before .before .before .before .before .before .before .before .before .before .before .before .before .before .before .before .before .before .before .before .before .before .before .before .before .before .pre .1 .1) (getD-allBytes (c .before .before .before .before .before .before .before .before .before .before .before .before .before .before .before .before .before .before .before .before .before .before .before .before .before .before .before .args .s .now) (λ i. omega (arith, c .before .before .before .before .before .before .before .before .before .before .before .before .before .before .before .before .before .before .before .before .before .before .before .before .before .before .shared-slice-known .given i))) (c .before .before .before .before .before .before .before .before .before .before .before .before .before .before .before .before .before .before .before .before .before .before .content .ensures .0) (rw (c .before .before .before .before .before .before .before .before .before .before .before .before .enum-told .given .1) at (c .before .before .before .before .before .before .before .before .before .before .before .before .before .before .find-in .ensures))) (c .before .before .before .before .before .before .before .before .before .before .before .before .before .before .before .before .room .ensures) (c .before .before .before .before .before .before .default .kept .1 .1 .0) (rw (c .before .before .m2 .given .1, tail-is, tail-is) at (c .before .before .before .before .before .before .default .ensures)) (c .joined2 .ensures)
+one-field-returns-4 t c = wrote-last _ _ _ _ _ _ _ _ _ (c .before .before .before .before .before .before .before .before .before .before .before .before .before .before .before .before .before .before .before .put .ensures) (field-defaults _ _ (c .before .before .before .before .before .before .before .before .before .before .before .before .before .before .before .before .before .before .before .before .before .before .before .before .before .before .before .pre .1 .0) _ (c .before .before .before .before .before .before .before .before .before .before .before .before .before .before .before .field-at .ensures) (not-false _ (c .before .before .before .before .before .before .before .before .before .before .if1 .left)) _ _ _ (c .before .before .before .before .before .before .before .before .before .before .before .before .before .before .before .before .before .before .before .before .before .before .before .before .before .before .before .pre .1 .1) (getD-allBytes (c .before .before .before .before .before .before .before .before .before .before .before .before .before .before .before .before .before .before .before .before .before .before .before .before .before .before .before .args .s .now) (λ i. omega (arith, c .before .before .before .before .before .before .before .before .before .before .before .before .before .before .before .before .before .before .before .before .before .before .before .before .before .before .shared-slice-known .given i))) (c .before .before .before .before .before .before .before .before .before .before .before .before .before .before .before .before .before .before .before .before .before .before .content .ensures .0) (rw (c .before .before .before .before .before .before .before .before .before .before .before .before .enum-told .given .1) at (c .before .before .before .before .before .before .before .before .before .before .before .before .before .before .find-in .ensures))) (c .before .before .before .before .before .before .before .before .before .before .before .before .before .before .before .before .room .ensures) (c .before .before .before .before .before .before .default .kept .1 .1 .0) (rw (c .before .before .m2 .given .1, part-to-end, part-to-end) at (c .before .before .before .before .before .before .default .ensures)) (c .joined2 .ensures)
 
 one-field-same-length-5 : (t : ℕ) → one-field-lts.Need-same-length-5 (content-reads.Asked, content-reads.Learnt, put-reads.Asked, put-reads.Learnt, room-reads.Asked, room-reads.Learnt, field-at-reads.Asked, field-at-reads.Learnt, find-in-reads.Asked, find-in-reads.Learnt, resolve-node-below t, resolve-node.Post, joined-reads.Asked, joined-reads.Learnt, default-below t, default.Post) (one-field-at t) one-field.Post
 one-field-same-length-5 t c = same-len-mid {X = ℕ} (c .before .before .before .before .before .before .before .before .before .before .before .before .before .before .before .room .result) (length (c .before .before .before .before .before .before .before .before .before .before .before .before .before .before .before .before .before .before .put .last .0) - c .before .before .before .before .before .before .before .before .before .before .before .before .before .before .before .room .result) (c .before .before .before .before .before .before .before .before .before .before .before .before .before .before .before .before .before .before .put .last .0) (c .before .before .before .before .before .default .last .1 .1 .0) (c .before .before .before .before .before .default .kept .1 .1 .0) ∙ c .before .before .before .before .before .before .before .before .before .before .before .before .before .before .before .before .before .before .put .kept .0
 
 one-field-returns-5 : (t : ℕ) → one-field-lts.Need-returns-5 (content-reads.Asked, content-reads.Learnt, put-reads.Asked, put-reads.Learnt, room-reads.Asked, room-reads.Learnt, field-at-reads.Asked, field-at-reads.Learnt, find-in-reads.Asked, find-in-reads.Learnt, resolve-node-below t, resolve-node.Post, joined-reads.Asked, joined-reads.Learnt, default-below t, default.Post) (one-field-at t) one-field.Post
-one-field-returns-5 t c = wrote-last-no _ _ (take (length (c .before .before .before .before .before .before .before .before .before .before .before .before .before .before .before .before .before .before .before .before .before .content .result .now) + 2) (c .before .before .before .before .before .before .before .before .before .before .before .before .before .before .before .before .before .before .before .before .before .before .before .before .before .before .args .s .now)) _ _ _ (field-defaults _ _ (c .before .before .before .before .before .before .before .before .before .before .before .before .before .before .before .before .before .before .before .before .before .before .before .before .before .before .pre .1 .0) _ (c .before .before .before .before .before .before .before .before .before .before .before .before .before .before .field-at .ensures) (not-false _ (c .before .before .before .before .before .before .before .before .before .if1 .left)) _ _ _ (c .before .before .before .before .before .before .before .before .before .before .before .before .before .before .before .before .before .before .before .before .before .before .before .before .before .before .pre .1 .1) (getD-allBytes (c .before .before .before .before .before .before .before .before .before .before .before .before .before .before .before .before .before .before .before .before .before .before .before .before .before .before .args .s .now) (λ i. omega (arith, c .before .before .before .before .before .before .before .before .before .before .before .before .before .before .before .before .before .before .before .before .before .before .before .before .before .shared-slice-known .given i))) (c .before .before .before .before .before .before .before .before .before .before .before .before .before .before .before .before .before .before .before .before .before .content .ensures .0) (rw (c .before .before .before .before .before .before .before .before .before .before .before .enum-told .given .1) at (c .before .before .before .before .before .before .before .before .before .before .before .before .before .find-in .ensures))) (rw (c .before .e2 .given .1, tail-is, tail-is) at (c .before .before .before .before .before .default .ensures))
+one-field-returns-5 t c = wrote-last-no _ _ (take (length (c .before .before .before .before .before .before .before .before .before .before .before .before .before .before .before .before .before .before .before .before .before .content .result .now) + 2) (c .before .before .before .before .before .before .before .before .before .before .before .before .before .before .before .before .before .before .before .before .before .before .before .before .before .before .args .s .now)) _ _ _ (field-defaults _ _ (c .before .before .before .before .before .before .before .before .before .before .before .before .before .before .before .before .before .before .before .before .before .before .before .before .before .before .pre .1 .0) _ (c .before .before .before .before .before .before .before .before .before .before .before .before .before .before .field-at .ensures) (not-false _ (c .before .before .before .before .before .before .before .before .before .if1 .left)) _ _ _ (c .before .before .before .before .before .before .before .before .before .before .before .before .before .before .before .before .before .before .before .before .before .before .before .before .before .before .pre .1 .1) (getD-allBytes (c .before .before .before .before .before .before .before .before .before .before .before .before .before .before .before .before .before .before .before .before .before .before .before .before .before .before .args .s .now) (λ i. omega (arith, c .before .before .before .before .before .before .before .before .before .before .before .before .before .before .before .before .before .before .before .before .before .before .before .before .before .shared-slice-known .given i))) (c .before .before .before .before .before .before .before .before .before .before .before .before .before .before .before .before .before .before .before .before .before .content .ensures .0) (rw (c .before .before .before .before .before .before .before .before .before .before .before .enum-told .given .1) at (c .before .before .before .before .before .before .before .before .before .before .before .before .before .find-in .ensures))) (rw (c .before .e2 .given .1, part-to-end, part-to-end) at (c .before .before .before .before .before .default .ensures))
 
 abbrev resolve-array-Inv-loop : resolve-array-lts.InvT-loop
 resolve-array-Inv-loop s v out₀ ds dv left₀ at₀ from₀ out left at from = Loop (readValue (dv - 1)) (onBoth peeledBytes (readSchema ds s) (readValue dv v)) (onFirst nodeBytes (readSchema (ds - 1) (drop 1 s))) v (length out₀) out left at from
@@ -1013,7 +1014,7 @@ resolve-array-sub-resolve-node-5 : (t : ℕ) → resolve-array-lts.Need-sub-reso
 resolve-array-sub-resolve-node-5 t c = value-there _ _ (c .before .before .before .before .before .before .before .before .before .before .before .before .before .before .before .before .before .pre .1 .1) .0
 
 resolve-array-resolve-node-requires : (t : ℕ) → resolve-array-lts.Need-resolve-node-requires (read2-reads.Asked, read2-reads.Learnt, put-reads.Asked, put-reads.Learnt, room-reads.Asked, room-reads.Learnt, resolve-node-below t, resolve-node.Post, joined-reads.Asked, joined-reads.Learnt, value-len-reads.Asked, value-len-reads.Learnt) (resolve-array-at t) resolve-array.Post resolve-array-Inv-loop resolve-array-μ-loop
-resolve-array-resolve-node-requires t c κs = let h = schema-there _ _ (ready-reads _ _ (c .before .before .before .before .before .before .before .before .before .before .before .before .before .before .before .before .before .pre .1 .0)) in (omega (arith, c .before .before .before .before .before .before .before .before .before .before .before .before .before .before .before .before .before .pre .0), (rw tail-is (ready-array _ _ (c .before .before .before .before .before .before .before .before .before .before .before .before .before .before .before .before .before .pre .1 .0) (c .before .before .before .before .before .before .before .before .before .before .before .before .before .before .before .before .before .pre .1 .2)), rw tail-is (loop-first _ _ _ _ _ _ _ _ _ (c .before .before .before .before .before .loop .inv) (c .before .before .before .before .loop-test .taken))))
+resolve-array-resolve-node-requires t c κs = let h = schema-there _ _ (ready-reads _ _ (c .before .before .before .before .before .before .before .before .before .before .before .before .before .before .before .before .before .pre .1 .0)) in (omega (arith, c .before .before .before .before .before .before .before .before .before .before .before .before .before .before .before .before .before .pre .0), (rw part-to-end (ready-array _ _ (c .before .before .before .before .before .before .before .before .before .before .before .before .before .before .before .before .before .pre .1 .0) (c .before .before .before .before .before .before .before .before .before .before .before .before .before .before .before .before .before .pre .1 .2)), rw part-to-end (loop-first _ _ _ _ _ _ _ _ _ (c .before .before .before .before .before .loop .inv) (c .before .before .before .before .loop-test .taken))))
 
 resolve-array-enum-known-m : (t : ℕ) → resolve-array-lts.Need-enum-known-m (read2-reads.Asked, read2-reads.Learnt, put-reads.Asked, put-reads.Learnt, room-reads.Asked, room-reads.Learnt, resolve-node-below t, resolve-node.Post, joined-reads.Asked, joined-reads.Learnt, value-len-reads.Asked, value-len-reads.Learnt) (resolve-array-at t) resolve-array.Post resolve-array-Inv-loop resolve-array-μ-loop
 resolve-array-enum-known-m t c = search needs
@@ -1028,7 +1029,7 @@ resolve-array-same-length : (t : ℕ) → resolve-array-lts.Need-same-length (re
 resolve-array-same-length t c = same-len-mid {X = ℕ} (c .before .before .before .before .before .before .before .before .before .room .result) (length (c .before .before .before .before .before .before .before .before .before .before .before .loop .out) - c .before .before .before .before .before .before .before .before .before .room .result) (c .before .before .before .before .before .before .before .before .before .before .before .loop .out) (c .before .before .before .before .before .resolve-node .last .1 .1 .0) (c .before .before .before .before .before .resolve-node .kept .1 .1 .0) ∙ c .before .before .before .before .before .before .before .before .before .before .before .loop .inv .same ∙ c .before .before .before .before .before .before .before .before .before .before .before .before .before .before .put .kept .0
 
 resolve-array-returns-2 : (t : ℕ) → resolve-array-lts.Need-returns-2 (read2-reads.Asked, read2-reads.Learnt, put-reads.Asked, put-reads.Learnt, room-reads.Asked, room-reads.Learnt, resolve-node-below t, resolve-node.Post, joined-reads.Asked, joined-reads.Learnt, value-len-reads.Asked, value-len-reads.Learnt) (resolve-array-at t) resolve-array.Post resolve-array-Inv-loop resolve-array-μ-loop
-resolve-array-returns-2 t c = loop-no _ _ _ _ _ _ _ _ _ (c .before .before .before .before .before .before .before .before .before .before .before .loop .inv) (c .before .before .before .before .before .before .before .before .before .before .loop-test .taken) _ _ _ (wrote-eq _ _ _ _ (both-first _ _ _) (rw (c .before .e .given .1, tail-is, tail-is) at (c .before .before .before .before .before .resolve-node .ensures)))
+resolve-array-returns-2 t c = loop-no _ _ _ _ _ _ _ _ _ (c .before .before .before .before .before .before .before .before .before .before .before .loop .inv) (c .before .before .before .before .before .before .before .before .before .before .loop-test .taken) _ _ _ (wrote-eq _ _ _ _ (both-first _ _ _) (rw (c .before .e .given .1, part-to-end, part-to-end) at (c .before .before .before .before .before .resolve-node .ensures)))
 
 resolve-array-sub-value-len : (t : ℕ) → resolve-array-lts.Need-sub-value-len (read2-reads.Asked, read2-reads.Learnt, put-reads.Asked, put-reads.Learnt, room-reads.Asked, room-reads.Learnt, resolve-node-below t, resolve-node.Post, joined-reads.Asked, joined-reads.Learnt, value-len-reads.Asked, value-len-reads.Learnt) (resolve-array-at t) resolve-array.Post resolve-array-Inv-loop resolve-array-μ-loop
 resolve-array-sub-value-len t c = c .before .before .before .before .before .before .before .before .before .before .before .before .loop .inv .inside
@@ -1043,10 +1044,10 @@ resolve-array-sub-value-len-2 : (t : ℕ) → resolve-array-lts.Need-sub-value-l
 resolve-array-sub-value-len-2 t c = value-there _ _ (c .before .before .before .before .before .before .before .before .before .before .before .before .before .before .before .before .before .before .before .before .before .before .before .before .before .pre .1 .1) .0
 
 resolve-array-value-len-requires : (t : ℕ) → resolve-array-lts.Need-value-len-requires (read2-reads.Asked, read2-reads.Learnt, put-reads.Asked, put-reads.Learnt, room-reads.Asked, room-reads.Learnt, resolve-node-below t, resolve-node.Post, joined-reads.Asked, joined-reads.Learnt, value-len-reads.Asked, value-len-reads.Learnt) (resolve-array-at t) resolve-array.Post resolve-array-Inv-loop resolve-array-μ-loop
-resolve-array-value-len-requires t c κs = rw tail-is (loop-first _ _ _ _ _ _ _ _ _ (c .before .before .before .before .before .before .before .before .before .before .before .before .before .loop .inv) (c .before .before .before .before .before .before .before .before .before .before .before .before .loop-test .taken))
+resolve-array-value-len-requires t c κs = rw part-to-end (loop-first _ _ _ _ _ _ _ _ _ (c .before .before .before .before .before .before .before .before .before .before .before .before .before .loop .inv) (c .before .before .before .before .before .before .before .before .before .before .before .before .loop-test .taken))
 
 resolve-array-add-from : (t : ℕ) → resolve-array-lts.Need-add-from (read2-reads.Asked, read2-reads.Learnt, put-reads.Asked, put-reads.Learnt, room-reads.Asked, room-reads.Learnt, resolve-node-below t, resolve-node.Post, joined-reads.Asked, joined-reads.Learnt, value-len-reads.Asked, value-len-reads.Learnt) (resolve-array-at t) resolve-array.Post resolve-array-Inv-loop resolve-array-μ-loop
-resolve-array-add-from t c = let h = loop-add _ _ _ _ _ _ _ _ _ (c .before .before .before .before .before .before .before .before .before .before .before .before .before .before .loop .inv) _ (rw tail-is at (c .value-len .ensures)) in omega arith
+resolve-array-add-from t c = let h = loop-add _ _ _ _ _ _ _ _ _ (c .before .before .before .before .before .before .before .before .before .before .before .before .before .before .loop .inv) _ (rw part-to-end at (c .value-len .ensures)) in omega arith
 
 resolve-array-sub-left : (t : ℕ) → resolve-array-lts.Need-sub-left (read2-reads.Asked, read2-reads.Learnt, put-reads.Asked, put-reads.Learnt, room-reads.Asked, room-reads.Learnt, resolve-node-below t, resolve-node.Post, joined-reads.Asked, joined-reads.Learnt, value-len-reads.Asked, value-len-reads.Learnt) (resolve-array-at t) resolve-array.Post resolve-array-Inv-loop resolve-array-μ-loop
 resolve-array-sub-left t c = search needs
@@ -1055,7 +1056,7 @@ resolve-array-loop-less : (t : ℕ) → resolve-array-lts.Need-loop-less (read2-
 resolve-array-loop-less t c = search needs
 
 resolve-array-loop-again : (t : ℕ) → resolve-array-lts.Need-loop-again (read2-reads.Asked, read2-reads.Learnt, put-reads.Asked, put-reads.Learnt, room-reads.Asked, room-reads.Learnt, resolve-node-below t, resolve-node.Post, joined-reads.Asked, joined-reads.Learnt, value-len-reads.Asked, value-len-reads.Learnt) (resolve-array-at t) resolve-array.Post resolve-array-Inv-loop resolve-array-μ-loop
-resolve-array-loop-again t c = loop-step _ _ _ _ _ _ _ _ _ (c .before .before .before .before .before .before .before .before .before .before .before .before .before .before .loop .inv) (c .before .before .before .before .before .before .before .before .before .before .before .before .before .loop-test .taken) _ (rw tail-is at (c .value-len .ensures)) _ _ _ _ (c .before .before .before .before .before .before .before .before .before .before .before .before .room .ensures) (c .before .before .before .before .before .before .before .before .resolve-node .kept .1 .1 .0) (wrote-eq _ _ _ _ (both-first _ _ _) (rw (c .before .before .before .before .m .given .1, tail-is, tail-is) at (c .before .before .before .before .before .before .before .before .resolve-node .ensures))) (c .before .before .joined .ensures)
+resolve-array-loop-again t c = loop-step _ _ _ _ _ _ _ _ _ (c .before .before .before .before .before .before .before .before .before .before .before .before .before .before .loop .inv) (c .before .before .before .before .before .before .before .before .before .before .before .before .before .loop-test .taken) _ (rw part-to-end at (c .value-len .ensures)) _ _ _ _ (c .before .before .before .before .before .before .before .before .before .before .before .before .room .ensures) (c .before .before .before .before .before .before .before .before .resolve-node .kept .1 .1 .0) (wrote-eq _ _ _ _ (both-first _ _ _) (rw (c .before .before .before .before .m .given .1, part-to-end, part-to-end) at (c .before .before .before .before .before .before .before .before .resolve-node .ensures))) (c .before .before .joined .ensures)
 
 resolve-array-same-length-2 : (t : ℕ) → resolve-array-lts.Need-same-length-2 (read2-reads.Asked, read2-reads.Learnt, put-reads.Asked, put-reads.Learnt, room-reads.Asked, room-reads.Learnt, resolve-node-below t, resolve-node.Post, joined-reads.Asked, joined-reads.Learnt, value-len-reads.Asked, value-len-reads.Learnt) (resolve-array-at t) resolve-array.Post resolve-array-Inv-loop resolve-array-μ-loop
 resolve-array-same-length-2 t c = c .before .loop .inv .same ∙ c .before .before .before .before .put .kept .0
@@ -1124,7 +1125,7 @@ resolve-map-sub-entry-5 : (t : ℕ) → resolve-map-lts.Need-sub-entry-5 (read2-
 resolve-map-sub-entry-5 t c = value-there _ _ (c .before .before .before .before .before .before .before .before .before .before .before .before .before .before .before .before .before .pre .1 .1) .0
 
 resolve-map-entry-requires : (t : ℕ) → resolve-map-lts.Need-entry-requires (read2-reads.Asked, read2-reads.Learnt, put-reads.Asked, put-reads.Learnt, room-reads.Asked, room-reads.Learnt, entry-below t, entry.Post, joined-reads.Asked, joined-reads.Learnt, entry-len-reads.Asked, entry-len-reads.Learnt) (resolve-map-at t) resolve-map.Post resolve-map-Inv-loop resolve-map-μ-loop
-resolve-map-entry-requires t c κs = let h = schema-there _ _ (ready-reads _ _ (c .before .before .before .before .before .before .before .before .before .before .before .before .before .before .before .before .before .pre .1 .0)) in (omega (arith, c .before .before .before .before .before .before .before .before .before .before .before .before .before .before .before .before .before .pre .0), (rw tail-is (ready-map _ _ (c .before .before .before .before .before .before .before .before .before .before .before .before .before .before .before .before .before .pre .1 .0) (c .before .before .before .before .before .before .before .before .before .before .before .before .before .before .before .before .before .pre .1 .2)), rw tail-is (loop-first _ _ _ _ _ _ _ _ _ (c .before .before .before .before .before .loop .inv) (c .before .before .before .before .loop-test .taken))))
+resolve-map-entry-requires t c κs = let h = schema-there _ _ (ready-reads _ _ (c .before .before .before .before .before .before .before .before .before .before .before .before .before .before .before .before .before .pre .1 .0)) in (omega (arith, c .before .before .before .before .before .before .before .before .before .before .before .before .before .before .before .before .before .pre .0), (rw part-to-end (ready-map _ _ (c .before .before .before .before .before .before .before .before .before .before .before .before .before .before .before .before .before .pre .1 .0) (c .before .before .before .before .before .before .before .before .before .before .before .before .before .before .before .before .before .pre .1 .2)), rw part-to-end (loop-first _ _ _ _ _ _ _ _ _ (c .before .before .before .before .before .loop .inv) (c .before .before .before .before .loop-test .taken))))
 
 resolve-map-enum-known-m : (t : ℕ) → resolve-map-lts.Need-enum-known-m (read2-reads.Asked, read2-reads.Learnt, put-reads.Asked, put-reads.Learnt, room-reads.Asked, room-reads.Learnt, entry-below t, entry.Post, joined-reads.Asked, joined-reads.Learnt, entry-len-reads.Asked, entry-len-reads.Learnt) (resolve-map-at t) resolve-map.Post resolve-map-Inv-loop resolve-map-μ-loop
 resolve-map-enum-known-m t c = search needs
@@ -1139,7 +1140,7 @@ resolve-map-same-length : (t : ℕ) → resolve-map-lts.Need-same-length (read2-
 resolve-map-same-length t c = same-len-mid {X = ℕ} (c .before .before .before .before .before .before .before .before .before .room .result) (length (c .before .before .before .before .before .before .before .before .before .before .before .loop .out) - c .before .before .before .before .before .before .before .before .before .room .result) (c .before .before .before .before .before .before .before .before .before .before .before .loop .out) (c .before .before .before .before .before .entry .last .1 .1 .0) (c .before .before .before .before .before .entry .kept .1 .1 .0) ∙ c .before .before .before .before .before .before .before .before .before .before .before .loop .inv .same ∙ c .before .before .before .before .before .before .before .before .before .before .before .before .before .before .put .kept .0
 
 resolve-map-returns-2 : (t : ℕ) → resolve-map-lts.Need-returns-2 (read2-reads.Asked, read2-reads.Learnt, put-reads.Asked, put-reads.Learnt, room-reads.Asked, room-reads.Learnt, entry-below t, entry.Post, joined-reads.Asked, joined-reads.Learnt, entry-len-reads.Asked, entry-len-reads.Learnt) (resolve-map-at t) resolve-map.Post resolve-map-Inv-loop resolve-map-μ-loop
-resolve-map-returns-2 t c = loop-no _ _ _ _ _ _ _ _ _ (c .before .before .before .before .before .before .before .before .before .before .before .loop .inv) (c .before .before .before .before .before .before .before .before .before .before .loop-test .taken) _ _ _ (wrote-eq _ _ _ _ (both-first _ _ _) (rw (c .before .e .given .1, tail-is, tail-is) at (c .before .before .before .before .before .entry .ensures)))
+resolve-map-returns-2 t c = loop-no _ _ _ _ _ _ _ _ _ (c .before .before .before .before .before .before .before .before .before .before .before .loop .inv) (c .before .before .before .before .before .before .before .before .before .before .loop-test .taken) _ _ _ (wrote-eq _ _ _ _ (both-first _ _ _) (rw (c .before .e .given .1, part-to-end, part-to-end) at (c .before .before .before .before .before .entry .ensures)))
 
 resolve-map-sub-entry-len : (t : ℕ) → resolve-map-lts.Need-sub-entry-len (read2-reads.Asked, read2-reads.Learnt, put-reads.Asked, put-reads.Learnt, room-reads.Asked, room-reads.Learnt, entry-below t, entry.Post, joined-reads.Asked, joined-reads.Learnt, entry-len-reads.Asked, entry-len-reads.Learnt) (resolve-map-at t) resolve-map.Post resolve-map-Inv-loop resolve-map-μ-loop
 resolve-map-sub-entry-len t c = c .before .before .before .before .before .before .before .before .before .before .before .before .loop .inv .inside
@@ -1154,10 +1155,10 @@ resolve-map-sub-entry-len-2 : (t : ℕ) → resolve-map-lts.Need-sub-entry-len-2
 resolve-map-sub-entry-len-2 t c = value-there _ _ (c .before .before .before .before .before .before .before .before .before .before .before .before .before .before .before .before .before .before .before .before .before .before .before .before .before .pre .1 .1) .0
 
 resolve-map-entry-len-requires : (t : ℕ) → resolve-map-lts.Need-entry-len-requires (read2-reads.Asked, read2-reads.Learnt, put-reads.Asked, put-reads.Learnt, room-reads.Asked, room-reads.Learnt, entry-below t, entry.Post, joined-reads.Asked, joined-reads.Learnt, entry-len-reads.Asked, entry-len-reads.Learnt) (resolve-map-at t) resolve-map.Post resolve-map-Inv-loop resolve-map-μ-loop
-resolve-map-entry-len-requires t c κs = rw tail-is (loop-first _ _ _ _ _ _ _ _ _ (c .before .before .before .before .before .before .before .before .before .before .before .before .before .loop .inv) (c .before .before .before .before .before .before .before .before .before .before .before .before .loop-test .taken))
+resolve-map-entry-len-requires t c κs = rw part-to-end (loop-first _ _ _ _ _ _ _ _ _ (c .before .before .before .before .before .before .before .before .before .before .before .before .before .loop .inv) (c .before .before .before .before .before .before .before .before .before .before .before .before .loop-test .taken))
 
 resolve-map-add-from : (t : ℕ) → resolve-map-lts.Need-add-from (read2-reads.Asked, read2-reads.Learnt, put-reads.Asked, put-reads.Learnt, room-reads.Asked, room-reads.Learnt, entry-below t, entry.Post, joined-reads.Asked, joined-reads.Learnt, entry-len-reads.Asked, entry-len-reads.Learnt) (resolve-map-at t) resolve-map.Post resolve-map-Inv-loop resolve-map-μ-loop
-resolve-map-add-from t c = let h = loop-add _ _ _ _ _ _ _ _ _ (c .before .before .before .before .before .before .before .before .before .before .before .before .before .before .loop .inv) _ (rw tail-is at (c .entry-len .ensures)) in omega arith
+resolve-map-add-from t c = let h = loop-add _ _ _ _ _ _ _ _ _ (c .before .before .before .before .before .before .before .before .before .before .before .before .before .before .loop .inv) _ (rw part-to-end at (c .entry-len .ensures)) in omega arith
 
 resolve-map-sub-left : (t : ℕ) → resolve-map-lts.Need-sub-left (read2-reads.Asked, read2-reads.Learnt, put-reads.Asked, put-reads.Learnt, room-reads.Asked, room-reads.Learnt, entry-below t, entry.Post, joined-reads.Asked, joined-reads.Learnt, entry-len-reads.Asked, entry-len-reads.Learnt) (resolve-map-at t) resolve-map.Post resolve-map-Inv-loop resolve-map-μ-loop
 resolve-map-sub-left t c = search needs
@@ -1166,7 +1167,7 @@ resolve-map-loop-less : (t : ℕ) → resolve-map-lts.Need-loop-less (read2-read
 resolve-map-loop-less t c = search needs
 
 resolve-map-loop-again : (t : ℕ) → resolve-map-lts.Need-loop-again (read2-reads.Asked, read2-reads.Learnt, put-reads.Asked, put-reads.Learnt, room-reads.Asked, room-reads.Learnt, entry-below t, entry.Post, joined-reads.Asked, joined-reads.Learnt, entry-len-reads.Asked, entry-len-reads.Learnt) (resolve-map-at t) resolve-map.Post resolve-map-Inv-loop resolve-map-μ-loop
-resolve-map-loop-again t c = loop-step _ _ _ _ _ _ _ _ _ (c .before .before .before .before .before .before .before .before .before .before .before .before .before .before .loop .inv) (c .before .before .before .before .before .before .before .before .before .before .before .before .before .loop-test .taken) _ (rw tail-is at (c .entry-len .ensures)) _ _ _ _ (c .before .before .before .before .before .before .before .before .before .before .before .before .room .ensures) (c .before .before .before .before .before .before .before .before .entry .kept .1 .1 .0) (wrote-eq _ _ _ _ (both-first _ _ _) (rw (c .before .before .before .before .m .given .1, tail-is, tail-is) at (c .before .before .before .before .before .before .before .before .entry .ensures))) (c .before .before .joined .ensures)
+resolve-map-loop-again t c = loop-step _ _ _ _ _ _ _ _ _ (c .before .before .before .before .before .before .before .before .before .before .before .before .before .before .loop .inv) (c .before .before .before .before .before .before .before .before .before .before .before .before .before .loop-test .taken) _ (rw part-to-end at (c .entry-len .ensures)) _ _ _ _ (c .before .before .before .before .before .before .before .before .before .before .before .before .room .ensures) (c .before .before .before .before .before .before .before .before .entry .kept .1 .1 .0) (wrote-eq _ _ _ _ (both-first _ _ _) (rw (c .before .before .before .before .m .given .1, part-to-end, part-to-end) at (c .before .before .before .before .before .before .before .before .entry .ensures))) (c .before .before .joined .ensures)
 
 resolve-map-same-length-2 : (t : ℕ) → resolve-map-lts.Need-same-length-2 (read2-reads.Asked, read2-reads.Learnt, put-reads.Asked, put-reads.Learnt, room-reads.Asked, room-reads.Learnt, entry-below t, entry.Post, joined-reads.Asked, joined-reads.Learnt, entry-len-reads.Asked, entry-len-reads.Learnt) (resolve-map-at t) resolve-map.Post resolve-map-Inv-loop resolve-map-μ-loop
 resolve-map-same-length-2 t c = c .before .loop .inv .same ∙ c .before .before .before .before .put .kept .0
@@ -1190,13 +1191,13 @@ resolve-node-part-resolve-array-end : (t : ℕ) → resolve-node-lts.Need-part-r
 resolve-node-part-resolve-array-end t c = search needs
 
 resolve-node-resolve-array-requires : (t : ℕ) → resolve-node-lts.Need-resolve-array-requires (peel-reads.Asked, peel-reads.Learnt, resolve-array-below t, resolve-array.Post, resolve-map-below t, resolve-map.Post, resolve-union-below t, resolve-union.Post, resolve-record-below t, resolve-record.Post, resolve-leaf-reads.Asked, resolve-leaf-reads.Learnt) (resolve-node-at t) resolve-node.Post
-resolve-node-resolve-array-requires t c κs = (omega (arith, c .before .before .before .before .before .before .before .before .pre .0), ((c .before .before .before .before .before .before .before .before .pre .1 .0), rw tail-is (peel-reads _ _ (c .before .before .before .before .peel .ensures .1) (c .before .before .before .before .before .before .before .before .pre .1 .1)), c .before .before .if1 .taken))
+resolve-node-resolve-array-requires t c κs = (omega (arith, c .before .before .before .before .before .before .before .before .pre .0), ((c .before .before .before .before .before .before .before .before .pre .1 .0), rw part-to-end (peel-reads _ _ (c .before .before .before .before .peel .ensures .1) (c .before .before .before .before .before .before .before .before .pre .1 .1)), c .before .before .if1 .taken))
 
 resolve-node-same-length : (t : ℕ) → resolve-node-lts.Need-same-length (peel-reads.Asked, peel-reads.Learnt, resolve-array-below t, resolve-array.Post, resolve-map-below t, resolve-map.Post, resolve-union-below t, resolve-union.Post, resolve-record-below t, resolve-record.Post, resolve-leaf-reads.Asked, resolve-leaf-reads.Learnt) (resolve-node-at t) resolve-node.Post
 resolve-node-same-length t c = search needs
 
 resolve-node-returns : (t : ℕ) → resolve-node-lts.Need-returns (peel-reads.Asked, peel-reads.Learnt, resolve-array-below t, resolve-array.Post, resolve-map-below t, resolve-map.Post, resolve-union-below t, resolve-union.Post, resolve-record-below t, resolve-record.Post, resolve-leaf-reads.Asked, resolve-leaf-reads.Learnt) (resolve-node-at t) resolve-node.Post
-resolve-node-returns t c = wrote-eq _ _ _ _ (both-peel _ _ _ (c .before .before .before .before .before .before .before .peel .ensures .1)) (rw tail-is at (c .before .before .resolve-array .ensures))
+resolve-node-returns t c = wrote-eq _ _ _ _ (both-peel _ _ _ (c .before .before .before .before .before .before .before .peel .ensures .1)) (rw part-to-end at (c .before .before .resolve-array .ensures))
 
 resolve-node-sub-resolve-map : (t : ℕ) → resolve-node-lts.Need-sub-resolve-map (peel-reads.Asked, peel-reads.Learnt, resolve-array-below t, resolve-array.Post, resolve-map-below t, resolve-map.Post, resolve-union-below t, resolve-union.Post, resolve-record-below t, resolve-record.Post, resolve-leaf-reads.Asked, resolve-leaf-reads.Learnt) (resolve-node-at t) resolve-node.Post
 resolve-node-sub-resolve-map t c = c .before .before .before .peel .ensures .0
@@ -1208,13 +1209,13 @@ resolve-node-part-resolve-map-end : (t : ℕ) → resolve-node-lts.Need-part-res
 resolve-node-part-resolve-map-end t c = search needs
 
 resolve-node-resolve-map-requires : (t : ℕ) → resolve-node-lts.Need-resolve-map-requires (peel-reads.Asked, peel-reads.Learnt, resolve-array-below t, resolve-array.Post, resolve-map-below t, resolve-map.Post, resolve-union-below t, resolve-union.Post, resolve-record-below t, resolve-record.Post, resolve-leaf-reads.Asked, resolve-leaf-reads.Learnt) (resolve-node-at t) resolve-node.Post
-resolve-node-resolve-map-requires t c κs = (omega (arith, c .before .before .before .before .before .before .before .before .before .pre .0), ((c .before .before .before .before .before .before .before .before .before .pre .1 .0), rw tail-is (peel-reads _ _ (c .before .before .before .before .before .peel .ensures .1) (c .before .before .before .before .before .before .before .before .before .pre .1 .1)), c .before .before .if2 .taken))
+resolve-node-resolve-map-requires t c κs = (omega (arith, c .before .before .before .before .before .before .before .before .before .pre .0), ((c .before .before .before .before .before .before .before .before .before .pre .1 .0), rw part-to-end (peel-reads _ _ (c .before .before .before .before .before .peel .ensures .1) (c .before .before .before .before .before .before .before .before .before .pre .1 .1)), c .before .before .if2 .taken))
 
 resolve-node-same-length-2 : (t : ℕ) → resolve-node-lts.Need-same-length-2 (peel-reads.Asked, peel-reads.Learnt, resolve-array-below t, resolve-array.Post, resolve-map-below t, resolve-map.Post, resolve-union-below t, resolve-union.Post, resolve-record-below t, resolve-record.Post, resolve-leaf-reads.Asked, resolve-leaf-reads.Learnt) (resolve-node-at t) resolve-node.Post
 resolve-node-same-length-2 t c = search needs
 
 resolve-node-returns-2 : (t : ℕ) → resolve-node-lts.Need-returns-2 (peel-reads.Asked, peel-reads.Learnt, resolve-array-below t, resolve-array.Post, resolve-map-below t, resolve-map.Post, resolve-union-below t, resolve-union.Post, resolve-record-below t, resolve-record.Post, resolve-leaf-reads.Asked, resolve-leaf-reads.Learnt) (resolve-node-at t) resolve-node.Post
-resolve-node-returns-2 t c = wrote-eq _ _ _ _ (both-peel _ _ _ (c .before .before .before .before .before .before .before .before .peel .ensures .1)) (rw tail-is at (c .before .before .resolve-map .ensures))
+resolve-node-returns-2 t c = wrote-eq _ _ _ _ (both-peel _ _ _ (c .before .before .before .before .before .before .before .before .peel .ensures .1)) (rw part-to-end at (c .before .before .resolve-map .ensures))
 
 resolve-node-sub-resolve-union : (t : ℕ) → resolve-node-lts.Need-sub-resolve-union (peel-reads.Asked, peel-reads.Learnt, resolve-array-below t, resolve-array.Post, resolve-map-below t, resolve-map.Post, resolve-union-below t, resolve-union.Post, resolve-record-below t, resolve-record.Post, resolve-leaf-reads.Asked, resolve-leaf-reads.Learnt) (resolve-node-at t) resolve-node.Post
 resolve-node-sub-resolve-union t c = c .before .before .before .before .peel .ensures .0
@@ -1226,13 +1227,13 @@ resolve-node-part-resolve-union-end : (t : ℕ) → resolve-node-lts.Need-part-r
 resolve-node-part-resolve-union-end t c = search needs
 
 resolve-node-resolve-union-requires : (t : ℕ) → resolve-node-lts.Need-resolve-union-requires (peel-reads.Asked, peel-reads.Learnt, resolve-array-below t, resolve-array.Post, resolve-map-below t, resolve-map.Post, resolve-union-below t, resolve-union.Post, resolve-record-below t, resolve-record.Post, resolve-leaf-reads.Asked, resolve-leaf-reads.Learnt) (resolve-node-at t) resolve-node.Post
-resolve-node-resolve-union-requires t c κs = (omega (arith, c .before .before .before .before .before .before .before .before .before .before .pre .0), ((c .before .before .before .before .before .before .before .before .before .before .pre .1 .0), rw tail-is (peel-reads _ _ (c .before .before .before .before .before .before .peel .ensures .1) (c .before .before .before .before .before .before .before .before .before .before .pre .1 .1)), c .before .before .if3 .taken))
+resolve-node-resolve-union-requires t c κs = (omega (arith, c .before .before .before .before .before .before .before .before .before .before .pre .0), ((c .before .before .before .before .before .before .before .before .before .before .pre .1 .0), rw part-to-end (peel-reads _ _ (c .before .before .before .before .before .before .peel .ensures .1) (c .before .before .before .before .before .before .before .before .before .before .pre .1 .1)), c .before .before .if3 .taken))
 
 resolve-node-same-length-3 : (t : ℕ) → resolve-node-lts.Need-same-length-3 (peel-reads.Asked, peel-reads.Learnt, resolve-array-below t, resolve-array.Post, resolve-map-below t, resolve-map.Post, resolve-union-below t, resolve-union.Post, resolve-record-below t, resolve-record.Post, resolve-leaf-reads.Asked, resolve-leaf-reads.Learnt) (resolve-node-at t) resolve-node.Post
 resolve-node-same-length-3 t c = search needs
 
 resolve-node-returns-3 : (t : ℕ) → resolve-node-lts.Need-returns-3 (peel-reads.Asked, peel-reads.Learnt, resolve-array-below t, resolve-array.Post, resolve-map-below t, resolve-map.Post, resolve-union-below t, resolve-union.Post, resolve-record-below t, resolve-record.Post, resolve-leaf-reads.Asked, resolve-leaf-reads.Learnt) (resolve-node-at t) resolve-node.Post
-resolve-node-returns-3 t c = wrote-eq _ _ _ _ (both-peel _ _ _ (c .before .before .before .before .before .before .before .before .before .peel .ensures .1)) (rw tail-is at (c .before .before .resolve-union .ensures))
+resolve-node-returns-3 t c = wrote-eq _ _ _ _ (both-peel _ _ _ (c .before .before .before .before .before .before .before .before .before .peel .ensures .1)) (rw part-to-end at (c .before .before .resolve-union .ensures))
 
 resolve-node-sub-resolve-record : (t : ℕ) → resolve-node-lts.Need-sub-resolve-record (peel-reads.Asked, peel-reads.Learnt, resolve-array-below t, resolve-array.Post, resolve-map-below t, resolve-map.Post, resolve-union-below t, resolve-union.Post, resolve-record-below t, resolve-record.Post, resolve-leaf-reads.Asked, resolve-leaf-reads.Learnt) (resolve-node-at t) resolve-node.Post
 resolve-node-sub-resolve-record t c = c .before .before .before .before .before .peel .ensures .0
@@ -1244,13 +1245,13 @@ resolve-node-part-resolve-record-end : (t : ℕ) → resolve-node-lts.Need-part-
 resolve-node-part-resolve-record-end t c = search needs
 
 resolve-node-resolve-record-requires : (t : ℕ) → resolve-node-lts.Need-resolve-record-requires (peel-reads.Asked, peel-reads.Learnt, resolve-array-below t, resolve-array.Post, resolve-map-below t, resolve-map.Post, resolve-union-below t, resolve-union.Post, resolve-record-below t, resolve-record.Post, resolve-leaf-reads.Asked, resolve-leaf-reads.Learnt) (resolve-node-at t) resolve-node.Post
-resolve-node-resolve-record-requires t c κs = (omega (arith, c .before .before .before .before .before .before .before .before .before .before .before .pre .0), ((c .before .before .before .before .before .before .before .before .before .before .before .pre .1 .0), rw tail-is (peel-reads _ _ (c .before .before .before .before .before .before .before .peel .ensures .1) (c .before .before .before .before .before .before .before .before .before .before .before .pre .1 .1)), c .before .before .if4 .taken))
+resolve-node-resolve-record-requires t c κs = (omega (arith, c .before .before .before .before .before .before .before .before .before .before .before .pre .0), ((c .before .before .before .before .before .before .before .before .before .before .before .pre .1 .0), rw part-to-end (peel-reads _ _ (c .before .before .before .before .before .before .before .peel .ensures .1) (c .before .before .before .before .before .before .before .before .before .before .before .pre .1 .1)), c .before .before .if4 .taken))
 
 resolve-node-same-length-4 : (t : ℕ) → resolve-node-lts.Need-same-length-4 (peel-reads.Asked, peel-reads.Learnt, resolve-array-below t, resolve-array.Post, resolve-map-below t, resolve-map.Post, resolve-union-below t, resolve-union.Post, resolve-record-below t, resolve-record.Post, resolve-leaf-reads.Asked, resolve-leaf-reads.Learnt) (resolve-node-at t) resolve-node.Post
 resolve-node-same-length-4 t c = search needs
 
 resolve-node-returns-4 : (t : ℕ) → resolve-node-lts.Need-returns-4 (peel-reads.Asked, peel-reads.Learnt, resolve-array-below t, resolve-array.Post, resolve-map-below t, resolve-map.Post, resolve-union-below t, resolve-union.Post, resolve-record-below t, resolve-record.Post, resolve-leaf-reads.Asked, resolve-leaf-reads.Learnt) (resolve-node-at t) resolve-node.Post
-resolve-node-returns-4 t c = wrote-eq _ _ _ _ (both-peel _ _ _ (c .before .before .before .before .before .before .before .before .before .before .peel .ensures .1)) (rw tail-is at (c .before .before .resolve-record .ensures))
+resolve-node-returns-4 t c = wrote-eq _ _ _ _ (both-peel _ _ _ (c .before .before .before .before .before .before .before .before .before .before .peel .ensures .1)) (rw part-to-end at (c .before .before .resolve-record .ensures))
 
 resolve-node-sub-resolve-leaf : (t : ℕ) → resolve-node-lts.Need-sub-resolve-leaf (peel-reads.Asked, peel-reads.Learnt, resolve-array-below t, resolve-array.Post, resolve-map-below t, resolve-map.Post, resolve-union-below t, resolve-union.Post, resolve-record-below t, resolve-record.Post, resolve-leaf-reads.Asked, resolve-leaf-reads.Learnt) (resolve-node-at t) resolve-node.Post
 resolve-node-sub-resolve-leaf t c = c .before .before .before .before .before .peel .ensures .0
@@ -1262,13 +1263,13 @@ resolve-node-part-resolve-leaf-end : (t : ℕ) → resolve-node-lts.Need-part-re
 resolve-node-part-resolve-leaf-end t c = search needs
 
 resolve-node-resolve-leaf-requires : (t : ℕ) → resolve-node-lts.Need-resolve-leaf-requires (peel-reads.Asked, peel-reads.Learnt, resolve-array-below t, resolve-array.Post, resolve-map-below t, resolve-map.Post, resolve-union-below t, resolve-union.Post, resolve-record-below t, resolve-record.Post, resolve-leaf-reads.Asked, resolve-leaf-reads.Learnt) (resolve-node-at t) resolve-node.Post
-resolve-node-resolve-leaf-requires t c κs = (c .before .before .before .before .before .before .before .before .before .before .before .pre .1 .0, rw tail-is (peel-reads _ _ (c .before .before .before .before .before .before .before .peel .ensures .1) (c .before .before .before .before .before .before .before .before .before .before .before .pre .1 .1)), record { no-array = c .before .before .before .before .before .if1 .left; no-map = c .before .before .before .before .if2 .left; no-union = c .before .before .before .if3 .left; no-fields = c .before .before .if4 .left })
+resolve-node-resolve-leaf-requires t c κs = (c .before .before .before .before .before .before .before .before .before .before .before .pre .1 .0, rw part-to-end (peel-reads _ _ (c .before .before .before .before .before .before .before .peel .ensures .1) (c .before .before .before .before .before .before .before .before .before .before .before .pre .1 .1)), record { no-array = c .before .before .before .before .before .if1 .left; no-map = c .before .before .before .before .if2 .left; no-union = c .before .before .before .if3 .left; no-fields = c .before .before .if4 .left })
 
 resolve-node-same-length-5 : (t : ℕ) → resolve-node-lts.Need-same-length-5 (peel-reads.Asked, peel-reads.Learnt, resolve-array-below t, resolve-array.Post, resolve-map-below t, resolve-map.Post, resolve-union-below t, resolve-union.Post, resolve-record-below t, resolve-record.Post, resolve-leaf-reads.Asked, resolve-leaf-reads.Learnt) (resolve-node-at t) resolve-node.Post
 resolve-node-same-length-5 t c = search needs
 
 resolve-node-returns-5 : (t : ℕ) → resolve-node-lts.Need-returns-5 (peel-reads.Asked, peel-reads.Learnt, resolve-array-below t, resolve-array.Post, resolve-map-below t, resolve-map.Post, resolve-union-below t, resolve-union.Post, resolve-record-below t, resolve-record.Post, resolve-leaf-reads.Asked, resolve-leaf-reads.Learnt) (resolve-node-at t) resolve-node.Post
-resolve-node-returns-5 t c = wrote-eq _ _ _ _ (both-peel _ _ _ (c .before .before .before .before .before .before .before .before .before .before .peel .ensures .1)) (rw tail-is at (c .before .before .resolve-leaf .ensures))
+resolve-node-returns-5 t c = wrote-eq _ _ _ _ (both-peel _ _ _ (c .before .before .before .before .before .before .before .before .before .before .peel .ensures .1)) (rw part-to-end at (c .before .before .resolve-leaf .ensures))
 
 resolve-record-shared-slice-read-if1 : (t : ℕ) → resolve-record-lts.Need-shared-slice-read-if1 (keyed-below t, keyed.Post) (resolve-record-at t) resolve-record.Post
 resolve-record-shared-slice-read-if1 t c = value-there _ _ (c .before .before .before .before .pre .1 .1) .1
@@ -1385,14 +1386,14 @@ tabled-sub-is-tried-2 t c = ready-deep (c .before .before .before .before .befor
 
 tabled-is-tried-requires : (t : ℕ) → tabled-lts.Need-is-tried-requires (indexed-below t, indexed.Post, variant-at-reads.Asked, variant-at-reads.Learnt, is-tried-reads.Asked, is-tried-reads.Learnt, any-of-below t, any-of.Post) (tabled-at t) tabled.Post
 unfolding Reads
-tabled-is-tried-requires t c κs = rw tail-is (variant-reads (c .before .before .before .before .before .before .before .before .before .before .before .before .args .ds) (c .before .before .before .before .before .before .before .before .before .before .before .before .args .s .now) (c .before .before .before .before .before .before .before .before .before .before .before .before .pre .1 .0) (c .before .before .before .before .before .before .before .before .before .before .before .before .pre .1 .2) (c .before .before .before .before .before .before .before .before .before .before .before .before .args .i) (c .before .variant-at .result) (c .before .variant-at .ensures) (table-count (c .before .before .before .before .before .before .before .before .before .before .before .before .args .ds) (c .before .before .before .before .before .before .before .before .before .before .before .before .args .s .now) (c .before .before .before .before .before .before .before .before .before .before .before .before .pre .1 .0) (c .before .before .before .before .before .before .before .before .before .before .before .before .pre .1 .2) (c .before .before .before .before .before .before .before .before .before .before .before .before .args .dv) (c .before .before .before .before .before .before .before .before .before .before .before .before .args .v .now) (c .before .before .before .before .before .before .before .before .before .before .before .before .pre .1 .1 .0) (c .before .before .before .before .before .before .before .before .before .before .before .before .pre .1 .1 .1 .0) (c .before .before .before .before .before .before .before .before .before .before .before .before .pre .1 .1 .1 .1) (c .before .before .before .before .before .before .before .before .before .before .before .before .args .i) (c .before .before .before .before .before .before .before .before .before .before .before .before .args .named) (c .before .before .before .before .before .before .before .before .before .before .before .before .pre .1 .3)))
+tabled-is-tried-requires t c κs = rw part-to-end (variant-reads (c .before .before .before .before .before .before .before .before .before .before .before .before .args .ds) (c .before .before .before .before .before .before .before .before .before .before .before .before .args .s .now) (c .before .before .before .before .before .before .before .before .before .before .before .before .pre .1 .0) (c .before .before .before .before .before .before .before .before .before .before .before .before .pre .1 .2) (c .before .before .before .before .before .before .before .before .before .before .before .before .args .i) (c .before .variant-at .result) (c .before .variant-at .ensures) (table-count (c .before .before .before .before .before .before .before .before .before .before .before .before .args .ds) (c .before .before .before .before .before .before .before .before .before .before .before .before .args .s .now) (c .before .before .before .before .before .before .before .before .before .before .before .before .pre .1 .0) (c .before .before .before .before .before .before .before .before .before .before .before .before .pre .1 .2) (c .before .before .before .before .before .before .before .before .before .before .before .before .args .dv) (c .before .before .before .before .before .before .before .before .before .before .before .before .args .v .now) (c .before .before .before .before .before .before .before .before .before .before .before .before .pre .1 .1 .0) (c .before .before .before .before .before .before .before .before .before .before .before .before .pre .1 .1 .1 .0) (c .before .before .before .before .before .before .before .before .before .before .before .before .pre .1 .1 .1 .1) (c .before .before .before .before .before .before .before .before .before .before .before .before .args .i) (c .before .before .before .before .before .before .before .before .before .before .before .before .args .named) (c .before .before .before .before .before .before .before .before .before .before .before .before .pre .1 .3)))
 
 tabled-same-length : (t : ℕ) → tabled-lts.Need-same-length (indexed-below t, indexed.Post, variant-at-reads.Asked, variant-at-reads.Learnt, is-tried-reads.Asked, is-tried-reads.Learnt, any-of-below t, any-of.Post) (tabled-at t) tabled.Post
 tabled-same-length t c = search needs
 
 tabled-returns : (t : ℕ) → tabled-lts.Need-returns (indexed-below t, indexed.Post, variant-at-reads.Asked, variant-at-reads.Learnt, is-tried-reads.Asked, is-tried-reads.Learnt, any-of-below t, any-of.Post) (tabled-at t) tabled.Post
 unfolding Reads
-tabled-returns t c = table-untried (c .before .before .before .before .before .before .before .before .before .before .before .before .before .before .args .ds) (c .before .before .before .before .before .before .before .before .before .before .before .before .before .before .args .s .now) (c .before .before .before .before .before .before .before .before .before .before .before .before .before .before .pre .1 .0) (c .before .before .before .before .before .before .before .before .before .before .before .before .before .before .pre .1 .2) (c .before .before .before .before .before .before .before .before .before .before .before .before .before .before .args .dv) (c .before .before .before .before .before .before .before .before .before .before .before .before .before .before .args .v .now) (c .before .before .before .before .before .before .before .before .before .before .before .before .before .before .pre .1 .1 .0) (c .before .before .before .before .before .before .before .before .before .before .before .before .before .before .pre .1 .1 .1 .0) (c .before .before .before .before .before .before .before .before .before .before .before .before .before .before .pre .1 .1 .1 .1) (c .before .before .before .before .before .before .before .before .before .before .before .before .before .before .args .i) (c .before .before .before .before .before .before .before .before .before .before .before .before .before .before .args .named) (c .before .before .before .before .before .before .before .before .before .before .before .before .before .before .pre .1 .3) (kind-tried (c .before .before .before .before .before .before .before .before .before .before .before .before .before .before .args .ds) (c .before .before .before .before .before .before .before .before .before .before .before .before .before .before .args .s .now) (c .before .before .before .before .before .before .before .before .before .before .before .before .before .before .pre .1 .0) (c .before .before .before .before .before .before .before .before .before .before .before .before .before .before .pre .1 .2) (c .before .before .before .before .before .before .before .before .before .before .before .before .before .before .args .dv) (c .before .before .before .before .before .before .before .before .before .before .before .before .before .before .args .v .now) (c .before .before .before .before .before .before .before .before .before .before .before .before .before .before .pre .1 .1 .0) (c .before .before .before .before .before .before .before .before .before .before .before .before .before .before .pre .1 .1 .1 .0) (c .before .before .before .before .before .before .before .before .before .before .before .before .before .before .pre .1 .1 .1 .1) (c .before .before .before .before .before .before .before .before .before .before .before .before .before .before .args .i) (c .before .before .before .variant-at .result) (c .before .before .before .variant-at .ensures) (table-count (c .before .before .before .before .before .before .before .before .before .before .before .before .before .before .args .ds) (c .before .before .before .before .before .before .before .before .before .before .before .before .before .before .args .s .now) (c .before .before .before .before .before .before .before .before .before .before .before .before .before .before .pre .1 .0) (c .before .before .before .before .before .before .before .before .before .before .before .before .before .before .pre .1 .2) (c .before .before .before .before .before .before .before .before .before .before .before .before .before .before .args .dv) (c .before .before .before .before .before .before .before .before .before .before .before .before .before .before .args .v .now) (c .before .before .before .before .before .before .before .before .before .before .before .before .before .before .pre .1 .1 .0) (c .before .before .before .before .before .before .before .before .before .before .before .before .before .before .pre .1 .1 .1 .0) (c .before .before .before .before .before .before .before .before .before .before .before .before .before .before .pre .1 .1 .1 .1) (c .before .before .before .before .before .before .before .before .before .before .before .before .before .before .args .i) (c .before .before .before .before .before .before .before .before .before .before .before .before .before .before .args .named) (c .before .before .before .before .before .before .before .before .before .before .before .before .before .before .pre .1 .3)) (c .before .is-tried .result) (rw tail-is at (c .before .is-tried .ensures)) ∙ not-true _ (c .if1 .taken)) _ _ (rw (c .before .before .before .before .before .e .given .1) at (c .before .before .before .before .before .before .before .before .before .indexed .ensures))
+tabled-returns t c = table-untried (c .before .before .before .before .before .before .before .before .before .before .before .before .before .before .args .ds) (c .before .before .before .before .before .before .before .before .before .before .before .before .before .before .args .s .now) (c .before .before .before .before .before .before .before .before .before .before .before .before .before .before .pre .1 .0) (c .before .before .before .before .before .before .before .before .before .before .before .before .before .before .pre .1 .2) (c .before .before .before .before .before .before .before .before .before .before .before .before .before .before .args .dv) (c .before .before .before .before .before .before .before .before .before .before .before .before .before .before .args .v .now) (c .before .before .before .before .before .before .before .before .before .before .before .before .before .before .pre .1 .1 .0) (c .before .before .before .before .before .before .before .before .before .before .before .before .before .before .pre .1 .1 .1 .0) (c .before .before .before .before .before .before .before .before .before .before .before .before .before .before .pre .1 .1 .1 .1) (c .before .before .before .before .before .before .before .before .before .before .before .before .before .before .args .i) (c .before .before .before .before .before .before .before .before .before .before .before .before .before .before .args .named) (c .before .before .before .before .before .before .before .before .before .before .before .before .before .before .pre .1 .3) (kind-tried (c .before .before .before .before .before .before .before .before .before .before .before .before .before .before .args .ds) (c .before .before .before .before .before .before .before .before .before .before .before .before .before .before .args .s .now) (c .before .before .before .before .before .before .before .before .before .before .before .before .before .before .pre .1 .0) (c .before .before .before .before .before .before .before .before .before .before .before .before .before .before .pre .1 .2) (c .before .before .before .before .before .before .before .before .before .before .before .before .before .before .args .dv) (c .before .before .before .before .before .before .before .before .before .before .before .before .before .before .args .v .now) (c .before .before .before .before .before .before .before .before .before .before .before .before .before .before .pre .1 .1 .0) (c .before .before .before .before .before .before .before .before .before .before .before .before .before .before .pre .1 .1 .1 .0) (c .before .before .before .before .before .before .before .before .before .before .before .before .before .before .pre .1 .1 .1 .1) (c .before .before .before .before .before .before .before .before .before .before .before .before .before .before .args .i) (c .before .before .before .variant-at .result) (c .before .before .before .variant-at .ensures) (table-count (c .before .before .before .before .before .before .before .before .before .before .before .before .before .before .args .ds) (c .before .before .before .before .before .before .before .before .before .before .before .before .before .before .args .s .now) (c .before .before .before .before .before .before .before .before .before .before .before .before .before .before .pre .1 .0) (c .before .before .before .before .before .before .before .before .before .before .before .before .before .before .pre .1 .2) (c .before .before .before .before .before .before .before .before .before .before .before .before .before .before .args .dv) (c .before .before .before .before .before .before .before .before .before .before .before .before .before .before .args .v .now) (c .before .before .before .before .before .before .before .before .before .before .before .before .before .before .pre .1 .1 .0) (c .before .before .before .before .before .before .before .before .before .before .before .before .before .before .pre .1 .1 .1 .0) (c .before .before .before .before .before .before .before .before .before .before .before .before .before .before .pre .1 .1 .1 .1) (c .before .before .before .before .before .before .before .before .before .before .before .before .before .before .args .i) (c .before .before .before .before .before .before .before .before .before .before .before .before .before .before .args .named) (c .before .before .before .before .before .before .before .before .before .before .before .before .before .before .pre .1 .3)) (c .before .is-tried .result) (rw part-to-end at (c .before .is-tried .ensures)) ∙ not-true _ (c .if1 .taken)) _ _ (rw (c .before .before .before .before .before .e .given .1) at (c .before .before .before .before .before .before .before .before .before .indexed .ensures))
 
 tabled-enum-known-named : (t : ℕ) → tabled-lts.Need-enum-known-named (indexed-below t, indexed.Post, variant-at-reads.Asked, variant-at-reads.Learnt, is-tried-reads.Asked, is-tried-reads.Learnt, any-of-below t, any-of.Post) (tabled-at t) tabled.Post
 tabled-enum-known-named t c = search needs
@@ -1406,7 +1407,7 @@ tabled-enum-told t c = search needs
 
 tabled-any-of-requires : (t : ℕ) → tabled-lts.Need-any-of-requires (indexed-below t, indexed.Post, variant-at-reads.Asked, variant-at-reads.Learnt, is-tried-reads.Asked, is-tried-reads.Learnt, any-of-below t, any-of.Post) (tabled-at t) tabled.Post
 unfolding Reads
-tabled-any-of-requires t c κs = (omega (arith, c .before .before .before .before .before .before .before .before .before .before .before .before .before .before .before .before .before .pre .0), (c .before .before .before .before .before .before .before .before .before .before .before .before .before .before .before .before .before .pre .1 .0, c .before .before .before .before .before .before .before .before .before .before .before .before .before .before .before .before .before .pre .1 .1, c .before .before .before .before .before .before .before .before .before .before .before .before .before .before .before .before .before .pre .1 .2, table-yet (c .before .before .before .before .before .before .before .before .before .before .before .before .before .before .before .before .before .args .ds) (c .before .before .before .before .before .before .before .before .before .before .before .before .before .before .before .before .before .args .s .now) (c .before .before .before .before .before .before .before .before .before .before .before .before .before .before .before .before .before .pre .1 .0) (c .before .before .before .before .before .before .before .before .before .before .before .before .before .before .before .before .before .pre .1 .2) (c .before .before .before .before .before .before .before .before .before .before .before .before .before .before .before .before .before .args .dv) (c .before .before .before .before .before .before .before .before .before .before .before .before .before .before .before .before .before .args .v .now) (c .before .before .before .before .before .before .before .before .before .before .before .before .before .before .before .before .before .pre .1 .1 .0) (c .before .before .before .before .before .before .before .before .before .before .before .before .before .before .before .before .before .pre .1 .1 .1 .0) (c .before .before .before .before .before .before .before .before .before .before .before .before .before .before .before .before .before .pre .1 .1 .1 .1) (c .before .before .before .before .before .before .before .before .before .before .before .before .before .before .before .before .before .args .i) (c .before .before .before .before .before .before .before .before .before .before .before .before .before .before .before .before .before .args .named) (c .before .before .before .before .before .before .before .before .before .before .before .before .before .before .before .before .before .pre .1 .3) (kind-tried (c .before .before .before .before .before .before .before .before .before .before .before .before .before .before .before .before .before .args .ds) (c .before .before .before .before .before .before .before .before .before .before .before .before .before .before .before .before .before .args .s .now) (c .before .before .before .before .before .before .before .before .before .before .before .before .before .before .before .before .before .pre .1 .0) (c .before .before .before .before .before .before .before .before .before .before .before .before .before .before .before .before .before .pre .1 .2) (c .before .before .before .before .before .before .before .before .before .before .before .before .before .before .before .before .before .args .dv) (c .before .before .before .before .before .before .before .before .before .before .before .before .before .before .before .before .before .args .v .now) (c .before .before .before .before .before .before .before .before .before .before .before .before .before .before .before .before .before .pre .1 .1 .0) (c .before .before .before .before .before .before .before .before .before .before .before .before .before .before .before .before .before .pre .1 .1 .1 .0) (c .before .before .before .before .before .before .before .before .before .before .before .before .before .before .before .before .before .pre .1 .1 .1 .1) (c .before .before .before .before .before .before .before .before .before .before .before .before .before .before .before .before .before .args .i) (c .before .before .before .before .before .before .variant-at .result) (c .before .before .before .before .before .before .variant-at .ensures) (table-count (c .before .before .before .before .before .before .before .before .before .before .before .before .before .before .before .before .before .args .ds) (c .before .before .before .before .before .before .before .before .before .before .before .before .before .before .before .before .before .args .s .now) (c .before .before .before .before .before .before .before .before .before .before .before .before .before .before .before .before .before .pre .1 .0) (c .before .before .before .before .before .before .before .before .before .before .before .before .before .before .before .before .before .pre .1 .2) (c .before .before .before .before .before .before .before .before .before .before .before .before .before .before .before .before .before .args .dv) (c .before .before .before .before .before .before .before .before .before .before .before .before .before .before .before .before .before .args .v .now) (c .before .before .before .before .before .before .before .before .before .before .before .before .before .before .before .before .before .pre .1 .1 .0) (c .before .before .before .before .before .before .before .before .before .before .before .before .before .before .before .before .before .pre .1 .1 .1 .0) (c .before .before .before .before .before .before .before .before .before .before .before .before .before .before .before .before .before .pre .1 .1 .1 .1) (c .before .before .before .before .before .before .before .before .before .before .before .before .before .before .before .before .before .args .i) (c .before .before .before .before .before .before .before .before .before .before .before .before .before .before .before .before .before .args .named) (c .before .before .before .before .before .before .before .before .before .before .before .before .before .before .before .before .before .pre .1 .3)) (c .before .before .before .before .is-tried .result) (rw tail-is at (c .before .before .before .before .is-tried .ensures)) ∙ not-false _ (c .before .before .before .if1 .left)) _ _ (rw (c .before .before .before .before .before .before .before .before .e .given .1) at (c .before .before .before .before .before .before .before .before .before .before .before .before .indexed .ensures)) (c .before .enum-told .given .1)))
+tabled-any-of-requires t c κs = (omega (arith, c .before .before .before .before .before .before .before .before .before .before .before .before .before .before .before .before .before .pre .0), (c .before .before .before .before .before .before .before .before .before .before .before .before .before .before .before .before .before .pre .1 .0, c .before .before .before .before .before .before .before .before .before .before .before .before .before .before .before .before .before .pre .1 .1, c .before .before .before .before .before .before .before .before .before .before .before .before .before .before .before .before .before .pre .1 .2, table-yet (c .before .before .before .before .before .before .before .before .before .before .before .before .before .before .before .before .before .args .ds) (c .before .before .before .before .before .before .before .before .before .before .before .before .before .before .before .before .before .args .s .now) (c .before .before .before .before .before .before .before .before .before .before .before .before .before .before .before .before .before .pre .1 .0) (c .before .before .before .before .before .before .before .before .before .before .before .before .before .before .before .before .before .pre .1 .2) (c .before .before .before .before .before .before .before .before .before .before .before .before .before .before .before .before .before .args .dv) (c .before .before .before .before .before .before .before .before .before .before .before .before .before .before .before .before .before .args .v .now) (c .before .before .before .before .before .before .before .before .before .before .before .before .before .before .before .before .before .pre .1 .1 .0) (c .before .before .before .before .before .before .before .before .before .before .before .before .before .before .before .before .before .pre .1 .1 .1 .0) (c .before .before .before .before .before .before .before .before .before .before .before .before .before .before .before .before .before .pre .1 .1 .1 .1) (c .before .before .before .before .before .before .before .before .before .before .before .before .before .before .before .before .before .args .i) (c .before .before .before .before .before .before .before .before .before .before .before .before .before .before .before .before .before .args .named) (c .before .before .before .before .before .before .before .before .before .before .before .before .before .before .before .before .before .pre .1 .3) (kind-tried (c .before .before .before .before .before .before .before .before .before .before .before .before .before .before .before .before .before .args .ds) (c .before .before .before .before .before .before .before .before .before .before .before .before .before .before .before .before .before .args .s .now) (c .before .before .before .before .before .before .before .before .before .before .before .before .before .before .before .before .before .pre .1 .0) (c .before .before .before .before .before .before .before .before .before .before .before .before .before .before .before .before .before .pre .1 .2) (c .before .before .before .before .before .before .before .before .before .before .before .before .before .before .before .before .before .args .dv) (c .before .before .before .before .before .before .before .before .before .before .before .before .before .before .before .before .before .args .v .now) (c .before .before .before .before .before .before .before .before .before .before .before .before .before .before .before .before .before .pre .1 .1 .0) (c .before .before .before .before .before .before .before .before .before .before .before .before .before .before .before .before .before .pre .1 .1 .1 .0) (c .before .before .before .before .before .before .before .before .before .before .before .before .before .before .before .before .before .pre .1 .1 .1 .1) (c .before .before .before .before .before .before .before .before .before .before .before .before .before .before .before .before .before .args .i) (c .before .before .before .before .before .before .variant-at .result) (c .before .before .before .before .before .before .variant-at .ensures) (table-count (c .before .before .before .before .before .before .before .before .before .before .before .before .before .before .before .before .before .args .ds) (c .before .before .before .before .before .before .before .before .before .before .before .before .before .before .before .before .before .args .s .now) (c .before .before .before .before .before .before .before .before .before .before .before .before .before .before .before .before .before .pre .1 .0) (c .before .before .before .before .before .before .before .before .before .before .before .before .before .before .before .before .before .pre .1 .2) (c .before .before .before .before .before .before .before .before .before .before .before .before .before .before .before .before .before .args .dv) (c .before .before .before .before .before .before .before .before .before .before .before .before .before .before .before .before .before .args .v .now) (c .before .before .before .before .before .before .before .before .before .before .before .before .before .before .before .before .before .pre .1 .1 .0) (c .before .before .before .before .before .before .before .before .before .before .before .before .before .before .before .before .before .pre .1 .1 .1 .0) (c .before .before .before .before .before .before .before .before .before .before .before .before .before .before .before .before .before .pre .1 .1 .1 .1) (c .before .before .before .before .before .before .before .before .before .before .before .before .before .before .before .before .before .args .i) (c .before .before .before .before .before .before .before .before .before .before .before .before .before .before .before .before .before .args .named) (c .before .before .before .before .before .before .before .before .before .before .before .before .before .before .before .before .before .pre .1 .3)) (c .before .before .before .before .is-tried .result) (rw part-to-end at (c .before .before .before .before .is-tried .ensures)) ∙ not-false _ (c .before .before .before .if1 .left)) _ _ (rw (c .before .before .before .before .before .before .before .before .e .given .1) at (c .before .before .before .before .before .before .before .before .before .before .before .before .indexed .ensures)) (c .before .enum-told .given .1)))
 
 tabled-same-length-2 : (t : ℕ) → tabled-lts.Need-same-length-2 (indexed-below t, indexed.Post, variant-at-reads.Asked, variant-at-reads.Learnt, is-tried-reads.Asked, is-tried-reads.Learnt, any-of-below t, any-of.Post) (tabled-at t) tabled.Post
 tabled-same-length-2 t c = search needs
@@ -1420,14 +1421,14 @@ tabled-same-length-3 t c = search needs
 
 tabled-returns-3 : (t : ℕ) → tabled-lts.Need-returns-3 (indexed-below t, indexed.Post, variant-at-reads.Asked, variant-at-reads.Learnt, is-tried-reads.Asked, is-tried-reads.Learnt, any-of-below t, any-of.Post) (tabled-at t) tabled.Post
 unfolding Reads
-tabled-returns-3 t c = table-named (c .before .before .before .before .before .before .before .before .before .before .before .before .before .before .before .before .before .before .before .before .before .args .ds) (c .before .before .before .before .before .before .before .before .before .before .before .before .before .before .before .before .before .before .before .before .before .args .s .now) (c .before .before .before .before .before .before .before .before .before .before .before .before .before .before .before .before .before .before .before .before .before .pre .1 .0) (c .before .before .before .before .before .before .before .before .before .before .before .before .before .before .before .before .before .before .before .before .before .pre .1 .2) (c .before .before .before .before .before .before .before .before .before .before .before .before .before .before .before .before .before .before .before .before .before .args .dv) (c .before .before .before .before .before .before .before .before .before .before .before .before .before .before .before .before .before .before .before .before .before .args .v .now) (c .before .before .before .before .before .before .before .before .before .before .before .before .before .before .before .before .before .before .before .before .before .pre .1 .1 .0) (c .before .before .before .before .before .before .before .before .before .before .before .before .before .before .before .before .before .before .before .before .before .pre .1 .1 .1 .0) (c .before .before .before .before .before .before .before .before .before .before .before .before .before .before .before .before .before .before .before .before .before .pre .1 .1 .1 .1) (c .before .before .before .before .before .before .before .before .before .before .before .before .before .before .before .before .before .before .before .before .before .args .i) (c .before .before .before .before .before .before .before .before .before .before .before .before .before .before .before .before .before .before .before .before .before .args .named) (c .before .before .before .before .before .before .before .before .before .before .before .before .before .before .before .before .before .before .before .before .before .pre .1 .3) (kind-tried (c .before .before .before .before .before .before .before .before .before .before .before .before .before .before .before .before .before .before .before .before .before .args .ds) (c .before .before .before .before .before .before .before .before .before .before .before .before .before .before .before .before .before .before .before .before .before .args .s .now) (c .before .before .before .before .before .before .before .before .before .before .before .before .before .before .before .before .before .before .before .before .before .pre .1 .0) (c .before .before .before .before .before .before .before .before .before .before .before .before .before .before .before .before .before .before .before .before .before .pre .1 .2) (c .before .before .before .before .before .before .before .before .before .before .before .before .before .before .before .before .before .before .before .before .before .args .dv) (c .before .before .before .before .before .before .before .before .before .before .before .before .before .before .before .before .before .before .before .before .before .args .v .now) (c .before .before .before .before .before .before .before .before .before .before .before .before .before .before .before .before .before .before .before .before .before .pre .1 .1 .0) (c .before .before .before .before .before .before .before .before .before .before .before .before .before .before .before .before .before .before .before .before .before .pre .1 .1 .1 .0) (c .before .before .before .before .before .before .before .before .before .before .before .before .before .before .before .before .before .before .before .before .before .pre .1 .1 .1 .1) (c .before .before .before .before .before .before .before .before .before .before .before .before .before .before .before .before .before .before .before .before .before .args .i) (c .before .before .before .before .before .before .before .before .before .before .variant-at .result) (c .before .before .before .before .before .before .before .before .before .before .variant-at .ensures) (table-count (c .before .before .before .before .before .before .before .before .before .before .before .before .before .before .before .before .before .before .before .before .before .args .ds) (c .before .before .before .before .before .before .before .before .before .before .before .before .before .before .before .before .before .before .before .before .before .args .s .now) (c .before .before .before .before .before .before .before .before .before .before .before .before .before .before .before .before .before .before .before .before .before .pre .1 .0) (c .before .before .before .before .before .before .before .before .before .before .before .before .before .before .before .before .before .before .before .before .before .pre .1 .2) (c .before .before .before .before .before .before .before .before .before .before .before .before .before .before .before .before .before .before .before .before .before .args .dv) (c .before .before .before .before .before .before .before .before .before .before .before .before .before .before .before .before .before .before .before .before .before .args .v .now) (c .before .before .before .before .before .before .before .before .before .before .before .before .before .before .before .before .before .before .before .before .before .pre .1 .1 .0) (c .before .before .before .before .before .before .before .before .before .before .before .before .before .before .before .before .before .before .before .before .before .pre .1 .1 .1 .0) (c .before .before .before .before .before .before .before .before .before .before .before .before .before .before .before .before .before .before .before .before .before .pre .1 .1 .1 .1) (c .before .before .before .before .before .before .before .before .before .before .before .before .before .before .before .before .before .before .before .before .before .args .i) (c .before .before .before .before .before .before .before .before .before .before .before .before .before .before .before .before .before .before .before .before .before .args .named) (c .before .before .before .before .before .before .before .before .before .before .before .before .before .before .before .before .before .before .before .before .before .pre .1 .3)) (c .before .before .before .before .before .before .before .before .is-tried .result) (rw tail-is at (c .before .before .before .before .before .before .before .before .is-tried .ensures)) ∙ not-false _ (c .before .before .before .before .before .before .before .if1 .left)) _ _ (rw (c .before .before .before .before .before .before .before .before .before .before .before .before .e .given .1) at (c .before .before .before .before .before .before .before .before .before .before .before .before .before .before .before .before .indexed .ensures)) _ _ (c .before .before .before .before .before .named .given .1) _ _ (c .before .before .indexed2 .ensures)
+tabled-returns-3 t c = table-named (c .before .before .before .before .before .before .before .before .before .before .before .before .before .before .before .before .before .before .before .before .before .args .ds) (c .before .before .before .before .before .before .before .before .before .before .before .before .before .before .before .before .before .before .before .before .before .args .s .now) (c .before .before .before .before .before .before .before .before .before .before .before .before .before .before .before .before .before .before .before .before .before .pre .1 .0) (c .before .before .before .before .before .before .before .before .before .before .before .before .before .before .before .before .before .before .before .before .before .pre .1 .2) (c .before .before .before .before .before .before .before .before .before .before .before .before .before .before .before .before .before .before .before .before .before .args .dv) (c .before .before .before .before .before .before .before .before .before .before .before .before .before .before .before .before .before .before .before .before .before .args .v .now) (c .before .before .before .before .before .before .before .before .before .before .before .before .before .before .before .before .before .before .before .before .before .pre .1 .1 .0) (c .before .before .before .before .before .before .before .before .before .before .before .before .before .before .before .before .before .before .before .before .before .pre .1 .1 .1 .0) (c .before .before .before .before .before .before .before .before .before .before .before .before .before .before .before .before .before .before .before .before .before .pre .1 .1 .1 .1) (c .before .before .before .before .before .before .before .before .before .before .before .before .before .before .before .before .before .before .before .before .before .args .i) (c .before .before .before .before .before .before .before .before .before .before .before .before .before .before .before .before .before .before .before .before .before .args .named) (c .before .before .before .before .before .before .before .before .before .before .before .before .before .before .before .before .before .before .before .before .before .pre .1 .3) (kind-tried (c .before .before .before .before .before .before .before .before .before .before .before .before .before .before .before .before .before .before .before .before .before .args .ds) (c .before .before .before .before .before .before .before .before .before .before .before .before .before .before .before .before .before .before .before .before .before .args .s .now) (c .before .before .before .before .before .before .before .before .before .before .before .before .before .before .before .before .before .before .before .before .before .pre .1 .0) (c .before .before .before .before .before .before .before .before .before .before .before .before .before .before .before .before .before .before .before .before .before .pre .1 .2) (c .before .before .before .before .before .before .before .before .before .before .before .before .before .before .before .before .before .before .before .before .before .args .dv) (c .before .before .before .before .before .before .before .before .before .before .before .before .before .before .before .before .before .before .before .before .before .args .v .now) (c .before .before .before .before .before .before .before .before .before .before .before .before .before .before .before .before .before .before .before .before .before .pre .1 .1 .0) (c .before .before .before .before .before .before .before .before .before .before .before .before .before .before .before .before .before .before .before .before .before .pre .1 .1 .1 .0) (c .before .before .before .before .before .before .before .before .before .before .before .before .before .before .before .before .before .before .before .before .before .pre .1 .1 .1 .1) (c .before .before .before .before .before .before .before .before .before .before .before .before .before .before .before .before .before .before .before .before .before .args .i) (c .before .before .before .before .before .before .before .before .before .before .variant-at .result) (c .before .before .before .before .before .before .before .before .before .before .variant-at .ensures) (table-count (c .before .before .before .before .before .before .before .before .before .before .before .before .before .before .before .before .before .before .before .before .before .args .ds) (c .before .before .before .before .before .before .before .before .before .before .before .before .before .before .before .before .before .before .before .before .before .args .s .now) (c .before .before .before .before .before .before .before .before .before .before .before .before .before .before .before .before .before .before .before .before .before .pre .1 .0) (c .before .before .before .before .before .before .before .before .before .before .before .before .before .before .before .before .before .before .before .before .before .pre .1 .2) (c .before .before .before .before .before .before .before .before .before .before .before .before .before .before .before .before .before .before .before .before .before .args .dv) (c .before .before .before .before .before .before .before .before .before .before .before .before .before .before .before .before .before .before .before .before .before .args .v .now) (c .before .before .before .before .before .before .before .before .before .before .before .before .before .before .before .before .before .before .before .before .before .pre .1 .1 .0) (c .before .before .before .before .before .before .before .before .before .before .before .before .before .before .before .before .before .before .before .before .before .pre .1 .1 .1 .0) (c .before .before .before .before .before .before .before .before .before .before .before .before .before .before .before .before .before .before .before .before .before .pre .1 .1 .1 .1) (c .before .before .before .before .before .before .before .before .before .before .before .before .before .before .before .before .before .before .before .before .before .args .i) (c .before .before .before .before .before .before .before .before .before .before .before .before .before .before .before .before .before .before .before .before .before .args .named) (c .before .before .before .before .before .before .before .before .before .before .before .before .before .before .before .before .before .before .before .before .before .pre .1 .3)) (c .before .before .before .before .before .before .before .before .is-tried .result) (rw part-to-end at (c .before .before .before .before .before .before .before .before .is-tried .ensures)) ∙ not-false _ (c .before .before .before .before .before .before .before .if1 .left)) _ _ (rw (c .before .before .before .before .before .before .before .before .before .before .before .before .e .given .1) at (c .before .before .before .before .before .before .before .before .before .before .before .before .before .before .before .before .indexed .ensures)) _ _ (c .before .before .before .before .before .named .given .1) _ _ (c .before .before .indexed2 .ensures)
 
 tabled-same-length-4 : (t : ℕ) → tabled-lts.Need-same-length-4 (indexed-below t, indexed.Post, variant-at-reads.Asked, variant-at-reads.Learnt, is-tried-reads.Asked, is-tried-reads.Learnt, any-of-below t, any-of.Post) (tabled-at t) tabled.Post
 tabled-same-length-4 t c = search needs
 
 tabled-returns-4 : (t : ℕ) → tabled-lts.Need-returns-4 (indexed-below t, indexed.Post, variant-at-reads.Asked, variant-at-reads.Learnt, is-tried-reads.Asked, is-tried-reads.Learnt, any-of-below t, any-of.Post) (tabled-at t) tabled.Post
 unfolding Reads
-tabled-returns-4 t c = table-any (c .before .before .before .before .before .before .before .before .before .before .before .before .before .before .before .before .before .before .before .before .args .ds) (c .before .before .before .before .before .before .before .before .before .before .before .before .before .before .before .before .before .before .before .before .args .s .now) (c .before .before .before .before .before .before .before .before .before .before .before .before .before .before .before .before .before .before .before .before .pre .1 .0) (c .before .before .before .before .before .before .before .before .before .before .before .before .before .before .before .before .before .before .before .before .pre .1 .2) (c .before .before .before .before .before .before .before .before .before .before .before .before .before .before .before .before .before .before .before .before .args .dv) (c .before .before .before .before .before .before .before .before .before .before .before .before .before .before .before .before .before .before .before .before .args .v .now) (c .before .before .before .before .before .before .before .before .before .before .before .before .before .before .before .before .before .before .before .before .pre .1 .1 .0) (c .before .before .before .before .before .before .before .before .before .before .before .before .before .before .before .before .before .before .before .before .pre .1 .1 .1 .0) (c .before .before .before .before .before .before .before .before .before .before .before .before .before .before .before .before .before .before .before .before .pre .1 .1 .1 .1) (c .before .before .before .before .before .before .before .before .before .before .before .before .before .before .before .before .before .before .before .before .args .i) (c .before .before .before .before .before .before .before .before .before .before .before .before .before .before .before .before .before .before .before .before .args .named) (c .before .before .before .before .before .before .before .before .before .before .before .before .before .before .before .before .before .before .before .before .pre .1 .3) (kind-tried (c .before .before .before .before .before .before .before .before .before .before .before .before .before .before .before .before .before .before .before .before .args .ds) (c .before .before .before .before .before .before .before .before .before .before .before .before .before .before .before .before .before .before .before .before .args .s .now) (c .before .before .before .before .before .before .before .before .before .before .before .before .before .before .before .before .before .before .before .before .pre .1 .0) (c .before .before .before .before .before .before .before .before .before .before .before .before .before .before .before .before .before .before .before .before .pre .1 .2) (c .before .before .before .before .before .before .before .before .before .before .before .before .before .before .before .before .before .before .before .before .args .dv) (c .before .before .before .before .before .before .before .before .before .before .before .before .before .before .before .before .before .before .before .before .args .v .now) (c .before .before .before .before .before .before .before .before .before .before .before .before .before .before .before .before .before .before .before .before .pre .1 .1 .0) (c .before .before .before .before .before .before .before .before .before .before .before .before .before .before .before .before .before .before .before .before .pre .1 .1 .1 .0) (c .before .before .before .before .before .before .before .before .before .before .before .before .before .before .before .before .before .before .before .before .pre .1 .1 .1 .1) (c .before .before .before .before .before .before .before .before .before .before .before .before .before .before .before .before .before .before .before .before .args .i) (c .before .before .before .before .before .before .before .before .before .variant-at .result) (c .before .before .before .before .before .before .before .before .before .variant-at .ensures) (table-count (c .before .before .before .before .before .before .before .before .before .before .before .before .before .before .before .before .before .before .before .before .args .ds) (c .before .before .before .before .before .before .before .before .before .before .before .before .before .before .before .before .before .before .before .before .args .s .now) (c .before .before .before .before .before .before .before .before .before .before .before .before .before .before .before .before .before .before .before .before .pre .1 .0) (c .before .before .before .before .before .before .before .before .before .before .before .before .before .before .before .before .before .before .before .before .pre .1 .2) (c .before .before .before .before .before .before .before .before .before .before .before .before .before .before .before .before .before .before .before .before .args .dv) (c .before .before .before .before .before .before .before .before .before .before .before .before .before .before .before .before .before .before .before .before .args .v .now) (c .before .before .before .before .before .before .before .before .before .before .before .before .before .before .before .before .before .before .before .before .pre .1 .1 .0) (c .before .before .before .before .before .before .before .before .before .before .before .before .before .before .before .before .before .before .before .before .pre .1 .1 .1 .0) (c .before .before .before .before .before .before .before .before .before .before .before .before .before .before .before .before .before .before .before .before .pre .1 .1 .1 .1) (c .before .before .before .before .before .before .before .before .before .before .before .before .before .before .before .before .before .before .before .before .args .i) (c .before .before .before .before .before .before .before .before .before .before .before .before .before .before .before .before .before .before .before .before .args .named) (c .before .before .before .before .before .before .before .before .before .before .before .before .before .before .before .before .before .before .before .before .pre .1 .3)) (c .before .before .before .before .before .before .before .is-tried .result) (rw tail-is at (c .before .before .before .before .before .before .before .is-tried .ensures)) ∙ not-false _ (c .before .before .before .before .before .before .if1 .left)) _ _ (rw (c .before .before .before .before .before .before .before .before .before .before .before .e .given .1) at (c .before .before .before .before .before .before .before .before .before .before .before .before .before .before .before .indexed .ensures)) (c .before .before .before .before .enum-told .given .1) _ _ (c .before .before .any-of .ensures)
+tabled-returns-4 t c = table-any (c .before .before .before .before .before .before .before .before .before .before .before .before .before .before .before .before .before .before .before .before .args .ds) (c .before .before .before .before .before .before .before .before .before .before .before .before .before .before .before .before .before .before .before .before .args .s .now) (c .before .before .before .before .before .before .before .before .before .before .before .before .before .before .before .before .before .before .before .before .pre .1 .0) (c .before .before .before .before .before .before .before .before .before .before .before .before .before .before .before .before .before .before .before .before .pre .1 .2) (c .before .before .before .before .before .before .before .before .before .before .before .before .before .before .before .before .before .before .before .before .args .dv) (c .before .before .before .before .before .before .before .before .before .before .before .before .before .before .before .before .before .before .before .before .args .v .now) (c .before .before .before .before .before .before .before .before .before .before .before .before .before .before .before .before .before .before .before .before .pre .1 .1 .0) (c .before .before .before .before .before .before .before .before .before .before .before .before .before .before .before .before .before .before .before .before .pre .1 .1 .1 .0) (c .before .before .before .before .before .before .before .before .before .before .before .before .before .before .before .before .before .before .before .before .pre .1 .1 .1 .1) (c .before .before .before .before .before .before .before .before .before .before .before .before .before .before .before .before .before .before .before .before .args .i) (c .before .before .before .before .before .before .before .before .before .before .before .before .before .before .before .before .before .before .before .before .args .named) (c .before .before .before .before .before .before .before .before .before .before .before .before .before .before .before .before .before .before .before .before .pre .1 .3) (kind-tried (c .before .before .before .before .before .before .before .before .before .before .before .before .before .before .before .before .before .before .before .before .args .ds) (c .before .before .before .before .before .before .before .before .before .before .before .before .before .before .before .before .before .before .before .before .args .s .now) (c .before .before .before .before .before .before .before .before .before .before .before .before .before .before .before .before .before .before .before .before .pre .1 .0) (c .before .before .before .before .before .before .before .before .before .before .before .before .before .before .before .before .before .before .before .before .pre .1 .2) (c .before .before .before .before .before .before .before .before .before .before .before .before .before .before .before .before .before .before .before .before .args .dv) (c .before .before .before .before .before .before .before .before .before .before .before .before .before .before .before .before .before .before .before .before .args .v .now) (c .before .before .before .before .before .before .before .before .before .before .before .before .before .before .before .before .before .before .before .before .pre .1 .1 .0) (c .before .before .before .before .before .before .before .before .before .before .before .before .before .before .before .before .before .before .before .before .pre .1 .1 .1 .0) (c .before .before .before .before .before .before .before .before .before .before .before .before .before .before .before .before .before .before .before .before .pre .1 .1 .1 .1) (c .before .before .before .before .before .before .before .before .before .before .before .before .before .before .before .before .before .before .before .before .args .i) (c .before .before .before .before .before .before .before .before .before .variant-at .result) (c .before .before .before .before .before .before .before .before .before .variant-at .ensures) (table-count (c .before .before .before .before .before .before .before .before .before .before .before .before .before .before .before .before .before .before .before .before .args .ds) (c .before .before .before .before .before .before .before .before .before .before .before .before .before .before .before .before .before .before .before .before .args .s .now) (c .before .before .before .before .before .before .before .before .before .before .before .before .before .before .before .before .before .before .before .before .pre .1 .0) (c .before .before .before .before .before .before .before .before .before .before .before .before .before .before .before .before .before .before .before .before .pre .1 .2) (c .before .before .before .before .before .before .before .before .before .before .before .before .before .before .before .before .before .before .before .before .args .dv) (c .before .before .before .before .before .before .before .before .before .before .before .before .before .before .before .before .before .before .before .before .args .v .now) (c .before .before .before .before .before .before .before .before .before .before .before .before .before .before .before .before .before .before .before .before .pre .1 .1 .0) (c .before .before .before .before .before .before .before .before .before .before .before .before .before .before .before .before .before .before .before .before .pre .1 .1 .1 .0) (c .before .before .before .before .before .before .before .before .before .before .before .before .before .before .before .before .before .before .before .before .pre .1 .1 .1 .1) (c .before .before .before .before .before .before .before .before .before .before .before .before .before .before .before .before .before .before .before .before .args .i) (c .before .before .before .before .before .before .before .before .before .before .before .before .before .before .before .before .before .before .before .before .args .named) (c .before .before .before .before .before .before .before .before .before .before .before .before .before .before .before .before .before .before .before .before .pre .1 .3)) (c .before .before .before .before .before .before .before .is-tried .result) (rw part-to-end at (c .before .before .before .before .before .before .before .is-tried .ensures)) ∙ not-false _ (c .before .before .before .before .before .before .if1 .left)) _ _ (rw (c .before .before .before .before .before .before .before .before .before .before .before .e .given .1) at (c .before .before .before .before .before .before .before .before .before .before .before .before .before .before .before .indexed .ensures)) (c .before .before .before .before .enum-told .given .1) _ _ (c .before .before .any-of .ensures)
 
 trial-room-requires : (t : ℕ) → trial-lts.Need-room-requires (room-reads.Asked, room-reads.Learnt, resolve-node-below t, resolve-node.Post) (trial-at t) trial.Post
 trial-room-requires t c κs = search needs
@@ -1448,7 +1449,7 @@ trial-same-length : (t : ℕ) → trial-lts.Need-same-length (room-reads.Asked, 
 trial-same-length t c = same-len-mid {X = ℕ} (c .before .before .before .before .room .result) (length (c .before .before .before .before .before .before .before .before .args .out .now) - c .before .before .before .before .room .result) (c .before .before .before .before .before .before .before .before .args .out .now) (c .before .before .resolve-node .last .1 .1 .0) (c .before .before .resolve-node .kept .1 .1 .0)
 
 trial-returns : (t : ℕ) → trial-lts.Need-returns (room-reads.Asked, room-reads.Learnt, resolve-node-below t, resolve-node.Post) (trial-at t) trial.Post
-trial-returns t c = wrote-sixth _ (c .before .before .before .before .room .result) (c .before .before .before .before .before .before .before .before .args .out .now) (c .before .before .resolve-node .last .1 .1 .0) _ (c .before .before .before .before .room .ensures) (omega (arith, rw tail-is at (c .before .before .resolve-node .kept .1 .1 .0), length-drop (c .before .before .before .before .room .result) (c .before .before .before .before .before .before .before .before .args .out .now))) (c .before .before .resolve-node .ensures)
+trial-returns t c = wrote-sixth _ (c .before .before .before .before .room .result) (c .before .before .before .before .before .before .before .before .args .out .now) (c .before .before .resolve-node .last .1 .1 .0) _ (c .before .before .before .before .room .ensures) (omega (arith, rw part-to-end at (c .before .before .resolve-node .kept .1 .1 .0), length-drop (c .before .before .before .before .room .result) (c .before .before .before .before .before .before .before .before .args .out .now))) (c .before .before .resolve-node .ensures)
 
 try-any-is-at-requires : (t : ℕ) → try-any-lts.Need-is-at-requires (is-at-reads.Asked, is-at-reads.Learnt, base-kind-reads.Asked, base-kind-reads.Learnt, named-kind-reads.Asked, named-kind-reads.Learnt, was-named-reads.Asked, was-named-reads.Learnt, trial-below t, trial.Post) (try-any-at t) try-any.Post
 try-any-is-at-requires t c κs = search needs
@@ -1472,7 +1473,7 @@ try-any-sub-base-kind-2 t c = ready-deep (c .before .before .before .before .bef
 
 try-any-base-kind-requires : (t : ℕ) → try-any-lts.Need-base-kind-requires (is-at-reads.Asked, is-at-reads.Learnt, base-kind-reads.Asked, base-kind-reads.Learnt, named-kind-reads.Asked, named-kind-reads.Learnt, was-named-reads.Asked, was-named-reads.Learnt, trial-below t, trial.Post) (try-any-at t) try-any.Post
 unfolding Reads
-try-any-base-kind-requires t c κs = rw tail-is (variant-reads (c .before .before .before .before .before .before .args .ds) (c .before .before .before .before .before .before .args .s .now) (c .before .before .before .before .before .before .pre .1 .0) (c .before .before .before .before .before .before .pre .1 .2) (c .before .before .before .before .before .before .args .i) (c .before .before .before .before .before .before .args .from) (c .before .before .before .before .before .before .pre .1 .5) (ready-below (c .before .before .before .before .before .before .args .ds) (c .before .before .before .before .before .before .args .s .now) (c .before .before .before .before .before .before .pre .1 .0) (c .before .before .before .before .before .before .pre .1 .2) (c .before .before .before .before .before .before .args .i) (c .before .before .before .before .before .before .pre .1 .4)))
+try-any-base-kind-requires t c κs = rw part-to-end (variant-reads (c .before .before .before .before .before .before .args .ds) (c .before .before .before .before .before .before .args .s .now) (c .before .before .before .before .before .before .pre .1 .0) (c .before .before .before .before .before .before .pre .1 .2) (c .before .before .before .before .before .before .args .i) (c .before .before .before .before .before .before .args .from) (c .before .before .before .before .before .before .pre .1 .5) (ready-below (c .before .before .before .before .before .before .args .ds) (c .before .before .before .before .before .before .args .s .now) (c .before .before .before .before .before .before .pre .1 .0) (c .before .before .before .before .before .before .pre .1 .2) (c .before .before .before .before .before .before .args .i) (c .before .before .before .before .before .before .pre .1 .4)))
 
 try-any-shared-slice-read-named-kind : (t : ℕ) → try-any-lts.Need-shared-slice-read-named-kind (is-at-reads.Asked, is-at-reads.Learnt, base-kind-reads.Asked, base-kind-reads.Learnt, named-kind-reads.Asked, named-kind-reads.Learnt, was-named-reads.Asked, was-named-reads.Learnt, trial-below t, trial.Post) (try-any-at t) try-any.Post
 try-any-shared-slice-read-named-kind t c = value-there (c .before .before .before .before .before .before .before .before .args .dv) (c .before .before .before .before .before .before .before .before .args .v .now) (c .before .before .before .before .before .before .before .before .pre .1 .1) .1
@@ -1486,7 +1487,7 @@ try-any-was-named-requires t c κs = again-inside (c .before .before .before .be
 
 try-any-returns-2 : (t : ℕ) → try-any-lts.Need-returns-2 (is-at-reads.Asked, is-at-reads.Learnt, base-kind-reads.Asked, base-kind-reads.Learnt, named-kind-reads.Asked, named-kind-reads.Learnt, was-named-reads.Asked, was-named-reads.Learnt, trial-below t, trial.Post) (try-any-at t) try-any.Post
 unfolding Reads
-try-any-returns-2 t c = again-named (c .before .before .before .before .before .before .before .before .before .before .before .args .ds) (c .before .before .before .before .before .before .before .before .before .before .before .args .s .now) (c .before .before .before .before .before .before .before .before .before .before .before .pre .1 .0) (c .before .before .before .before .before .before .before .before .before .before .before .pre .1 .2) (c .before .before .before .before .before .before .before .before .before .before .before .args .dv) (c .before .before .before .before .before .before .before .before .before .before .before .args .v .now) (c .before .before .before .before .before .before .before .before .before .before .before .pre .1 .1 .0) (c .before .before .before .before .before .before .before .before .before .before .before .pre .1 .1 .1 .0) (c .before .before .before .before .before .before .before .before .before .before .before .pre .1 .1 .1 .1) (c .before .before .before .before .before .before .before .before .before .before .before .args .tried) (c .before .before .before .before .before .before .before .before .before .before .before .pre .1 .3) (c .before .before .before .before .before .before .before .before .before .before .before .args .named) (c .before .before .before .before .before .before .before .before .before .before .before .pre .1 .6) (c .before .before .before .before .before .before .before .before .before .before .before .args .i) (c .before .before .before .before .before .before .before .before .before .before .before .args .from) (c .before .before .before .before .before .before .before .before .before .before .before .pre .1 .5) (ready-below (c .before .before .before .before .before .before .before .before .before .before .before .args .ds) (c .before .before .before .before .before .before .before .before .before .before .before .args .s .now) (c .before .before .before .before .before .before .before .before .before .before .before .pre .1 .0) (c .before .before .before .before .before .before .before .before .before .before .before .pre .1 .2) (c .before .before .before .before .before .before .before .before .before .before .before .args .i) (c .before .before .before .before .before .before .before .before .before .before .before .pre .1 .4)) (λ x. c .before .before .before .before .before .before .before .before .before .shared-slice-known2 .given x .fits) (c .before .before .named-kind .result) (c .before .before .before .before .base-kind .result) _ _ _ (c .before .before .named-kind .ensures) (rw tail-is at (c .before .before .before .before .base-kind .ensures)) (c .before .was-named .ensures) (c .if2 .taken)
+try-any-returns-2 t c = again-named (c .before .before .before .before .before .before .before .before .before .before .before .args .ds) (c .before .before .before .before .before .before .before .before .before .before .before .args .s .now) (c .before .before .before .before .before .before .before .before .before .before .before .pre .1 .0) (c .before .before .before .before .before .before .before .before .before .before .before .pre .1 .2) (c .before .before .before .before .before .before .before .before .before .before .before .args .dv) (c .before .before .before .before .before .before .before .before .before .before .before .args .v .now) (c .before .before .before .before .before .before .before .before .before .before .before .pre .1 .1 .0) (c .before .before .before .before .before .before .before .before .before .before .before .pre .1 .1 .1 .0) (c .before .before .before .before .before .before .before .before .before .before .before .pre .1 .1 .1 .1) (c .before .before .before .before .before .before .before .before .before .before .before .args .tried) (c .before .before .before .before .before .before .before .before .before .before .before .pre .1 .3) (c .before .before .before .before .before .before .before .before .before .before .before .args .named) (c .before .before .before .before .before .before .before .before .before .before .before .pre .1 .6) (c .before .before .before .before .before .before .before .before .before .before .before .args .i) (c .before .before .before .before .before .before .before .before .before .before .before .args .from) (c .before .before .before .before .before .before .before .before .before .before .before .pre .1 .5) (ready-below (c .before .before .before .before .before .before .before .before .before .before .before .args .ds) (c .before .before .before .before .before .before .before .before .before .before .before .args .s .now) (c .before .before .before .before .before .before .before .before .before .before .before .pre .1 .0) (c .before .before .before .before .before .before .before .before .before .before .before .pre .1 .2) (c .before .before .before .before .before .before .before .before .before .before .before .args .i) (c .before .before .before .before .before .before .before .before .before .before .before .pre .1 .4)) (λ x. c .before .before .before .before .before .before .before .before .before .shared-slice-known2 .given x .fits) (c .before .before .named-kind .result) (c .before .before .before .before .base-kind .result) _ _ _ (c .before .before .named-kind .ensures) (rw part-to-end at (c .before .before .before .before .base-kind .ensures)) (c .before .was-named .ensures) (c .if2 .taken)
 
 try-any-sub-trial : (t : ℕ) → try-any-lts.Need-sub-trial (is-at-reads.Asked, is-at-reads.Learnt, base-kind-reads.Asked, base-kind-reads.Learnt, named-kind-reads.Asked, named-kind-reads.Learnt, was-named-reads.Asked, was-named-reads.Learnt, trial-below t, trial.Post) (try-any-at t) try-any.Post
 try-any-sub-trial t c = c .before .before .before .before .before .before .before .before .before .before .before .pre .1 .5 .inside
@@ -1503,14 +1504,14 @@ try-any-sub-trial-2 t c = ready-deep (c .before .before .before .before .before 
 
 try-any-trial-requires : (t : ℕ) → try-any-lts.Need-trial-requires (is-at-reads.Asked, is-at-reads.Learnt, base-kind-reads.Asked, base-kind-reads.Learnt, named-kind-reads.Asked, named-kind-reads.Learnt, was-named-reads.Asked, was-named-reads.Learnt, trial-below t, trial.Post) (try-any-at t) try-any.Post
 unfolding Reads
-try-any-trial-requires t c κs = (omega (arith, c .before .before .before .before .before .before .before .before .before .before .before .before .before .pre .0, ready-deep (c .before .before .before .before .before .before .before .before .before .before .before .before .before .args .ds) (c .before .before .before .before .before .before .before .before .before .before .before .before .before .args .s .now) (c .before .before .before .before .before .before .before .before .before .before .before .before .before .pre .1 .0) (c .before .before .before .before .before .before .before .before .before .before .before .before .before .pre .1 .2)), (rw tail-is (variant-ready (c .before .before .before .before .before .before .before .before .before .before .before .before .before .args .ds) (c .before .before .before .before .before .before .before .before .before .before .before .before .before .args .s .now) (c .before .before .before .before .before .before .before .before .before .before .before .before .before .pre .1 .0) (c .before .before .before .before .before .before .before .before .before .before .before .before .before .pre .1 .2) (c .before .before .before .before .before .before .before .before .before .before .before .before .before .args .i) (c .before .before .before .before .before .before .before .before .before .before .before .before .before .args .from) (c .before .before .before .before .before .before .before .before .before .before .before .before .before .pre .1 .5) (ready-below (c .before .before .before .before .before .before .before .before .before .before .before .before .before .args .ds) (c .before .before .before .before .before .before .before .before .before .before .before .before .before .args .s .now) (c .before .before .before .before .before .before .before .before .before .before .before .before .before .pre .1 .0) (c .before .before .before .before .before .before .before .before .before .before .before .before .before .pre .1 .2) (c .before .before .before .before .before .before .before .before .before .before .before .before .before .args .i) (c .before .before .before .before .before .before .before .before .before .before .before .before .before .pre .1 .4))), c .before .before .before .before .before .before .before .before .before .before .before .before .before .pre .1 .1))
+try-any-trial-requires t c κs = (omega (arith, c .before .before .before .before .before .before .before .before .before .before .before .before .before .pre .0, ready-deep (c .before .before .before .before .before .before .before .before .before .before .before .before .before .args .ds) (c .before .before .before .before .before .before .before .before .before .before .before .before .before .args .s .now) (c .before .before .before .before .before .before .before .before .before .before .before .before .before .pre .1 .0) (c .before .before .before .before .before .before .before .before .before .before .before .before .before .pre .1 .2)), (rw part-to-end (variant-ready (c .before .before .before .before .before .before .before .before .before .before .before .before .before .args .ds) (c .before .before .before .before .before .before .before .before .before .before .before .before .before .args .s .now) (c .before .before .before .before .before .before .before .before .before .before .before .before .before .pre .1 .0) (c .before .before .before .before .before .before .before .before .before .before .before .before .before .pre .1 .2) (c .before .before .before .before .before .before .before .before .before .before .before .before .before .args .i) (c .before .before .before .before .before .before .before .before .before .before .before .before .before .args .from) (c .before .before .before .before .before .before .before .before .before .before .before .before .before .pre .1 .5) (ready-below (c .before .before .before .before .before .before .before .before .before .before .before .before .before .args .ds) (c .before .before .before .before .before .before .before .before .before .before .before .before .before .args .s .now) (c .before .before .before .before .before .before .before .before .before .before .before .before .before .pre .1 .0) (c .before .before .before .before .before .before .before .before .before .before .before .before .before .pre .1 .2) (c .before .before .before .before .before .before .before .before .before .before .before .before .before .args .i) (c .before .before .before .before .before .before .before .before .before .before .before .before .before .pre .1 .4))), c .before .before .before .before .before .before .before .before .before .before .before .before .before .pre .1 .1))
 
 try-any-same-length : (t : ℕ) → try-any-lts.Need-same-length (is-at-reads.Asked, is-at-reads.Learnt, base-kind-reads.Asked, base-kind-reads.Learnt, named-kind-reads.Asked, named-kind-reads.Learnt, was-named-reads.Asked, was-named-reads.Learnt, trial-below t, trial.Post) (try-any-at t) try-any.Post
 try-any-same-length t c = search needs
 
 try-any-returns-3 : (t : ℕ) → try-any-lts.Need-returns-3 (is-at-reads.Asked, is-at-reads.Learnt, base-kind-reads.Asked, base-kind-reads.Learnt, named-kind-reads.Asked, named-kind-reads.Learnt, was-named-reads.Asked, was-named-reads.Learnt, trial-below t, trial.Post) (try-any-at t) try-any.Post
 unfolding Reads
-try-any-returns-3 t c = again-one (c .before .before .before .before .before .before .before .before .before .before .before .before .before .before .before .before .args .ds) (c .before .before .before .before .before .before .before .before .before .before .before .before .before .before .before .before .args .s .now) (c .before .before .before .before .before .before .before .before .before .before .before .before .before .before .before .before .pre .1 .0) (c .before .before .before .before .before .before .before .before .before .before .before .before .before .before .before .before .pre .1 .2) (c .before .before .before .before .before .before .before .before .before .before .before .before .before .before .before .before .args .dv) (c .before .before .before .before .before .before .before .before .before .before .before .before .before .before .before .before .args .v .now) (c .before .before .before .before .before .before .before .before .before .before .before .before .before .before .before .before .pre .1 .1 .0) (c .before .before .before .before .before .before .before .before .before .before .before .before .before .before .before .before .pre .1 .1 .1 .0) (c .before .before .before .before .before .before .before .before .before .before .before .before .before .before .before .before .pre .1 .1 .1 .1) (c .before .before .before .before .before .before .before .before .before .before .before .before .before .before .before .before .args .i) (c .before .before .before .before .before .before .before .before .before .before .before .before .before .before .before .before .args .from) (c .before .before .before .before .before .before .before .before .before .before .before .before .before .before .before .before .pre .1 .5) (ready-below (c .before .before .before .before .before .before .before .before .before .before .before .before .before .before .before .before .args .ds) (c .before .before .before .before .before .before .before .before .before .before .before .before .before .before .before .before .args .s .now) (c .before .before .before .before .before .before .before .before .before .before .before .before .before .before .before .before .pre .1 .0) (c .before .before .before .before .before .before .before .before .before .before .before .before .before .before .before .before .pre .1 .2) (c .before .before .before .before .before .before .before .before .before .before .before .before .before .before .before .before .args .i) (c .before .before .before .before .before .before .before .before .before .before .before .before .before .before .before .before .pre .1 .4)) _ _ (rw tail-is at (c .before .before .trial .ensures))
+try-any-returns-3 t c = again-one (c .before .before .before .before .before .before .before .before .before .before .before .before .before .before .before .before .args .ds) (c .before .before .before .before .before .before .before .before .before .before .before .before .before .before .before .before .args .s .now) (c .before .before .before .before .before .before .before .before .before .before .before .before .before .before .before .before .pre .1 .0) (c .before .before .before .before .before .before .before .before .before .before .before .before .before .before .before .before .pre .1 .2) (c .before .before .before .before .before .before .before .before .before .before .before .before .before .before .before .before .args .dv) (c .before .before .before .before .before .before .before .before .before .before .before .before .before .before .before .before .args .v .now) (c .before .before .before .before .before .before .before .before .before .before .before .before .before .before .before .before .pre .1 .1 .0) (c .before .before .before .before .before .before .before .before .before .before .before .before .before .before .before .before .pre .1 .1 .1 .0) (c .before .before .before .before .before .before .before .before .before .before .before .before .before .before .before .before .pre .1 .1 .1 .1) (c .before .before .before .before .before .before .before .before .before .before .before .before .before .before .before .before .args .i) (c .before .before .before .before .before .before .before .before .before .before .before .before .before .before .before .before .args .from) (c .before .before .before .before .before .before .before .before .before .before .before .before .before .before .before .before .pre .1 .5) (ready-below (c .before .before .before .before .before .before .before .before .before .before .before .before .before .before .before .before .args .ds) (c .before .before .before .before .before .before .before .before .before .before .before .before .before .before .before .before .args .s .now) (c .before .before .before .before .before .before .before .before .before .before .before .before .before .before .before .before .pre .1 .0) (c .before .before .before .before .before .before .before .before .before .before .before .before .before .before .before .before .pre .1 .2) (c .before .before .before .before .before .before .before .before .before .before .before .before .before .before .before .before .args .i) (c .before .before .before .before .before .before .before .before .before .before .before .before .before .before .before .before .pre .1 .4)) _ _ (rw part-to-end at (c .before .before .trial .ensures))
 
 try-named-stands-in-requires : (t : ℕ) → try-named-lts.Need-stands-in-requires (stands-in-reads.Asked, stands-in-reads.Learnt, variant-at-reads.Asked, variant-at-reads.Learnt, base-kind-reads.Asked, base-kind-reads.Learnt, trial-below t, trial.Post) (try-named-at t) try-named.Post
 unfolding Reads
@@ -1539,11 +1540,11 @@ try-named-sub-base-kind-2 t c = ready-deep (c .before .before .before .before .b
 
 try-named-base-kind-requires : (t : ℕ) → try-named-lts.Need-base-kind-requires (stands-in-reads.Asked, stands-in-reads.Learnt, variant-at-reads.Asked, variant-at-reads.Learnt, base-kind-reads.Asked, base-kind-reads.Learnt, trial-below t, trial.Post) (try-named-at t) try-named.Post
 unfolding Reads
-try-named-base-kind-requires t c κs = rw tail-is (variant-reads (c .before .before .before .before .before .before .before .args .ds) (c .before .before .before .before .before .before .before .args .s .now) (c .before .before .before .before .before .before .before .pre .1 .0) (c .before .before .before .before .before .before .before .pre .1 .2) (c .before .before .before .before .before .before .before .args .i) (c .before .variant-at .result) (c .before .variant-at .ensures) (ready-below (c .before .before .before .before .before .before .before .args .ds) (c .before .before .before .before .before .before .before .args .s .now) (c .before .before .before .before .before .before .before .pre .1 .0) (c .before .before .before .before .before .before .before .pre .1 .2) (c .before .before .before .before .before .before .before .args .i) (c .before .before .before .before .before .before .before .pre .1 .3)))
+try-named-base-kind-requires t c κs = rw part-to-end (variant-reads (c .before .before .before .before .before .before .before .args .ds) (c .before .before .before .before .before .before .before .args .s .now) (c .before .before .before .before .before .before .before .pre .1 .0) (c .before .before .before .before .before .before .before .pre .1 .2) (c .before .before .before .before .before .before .before .args .i) (c .before .variant-at .result) (c .before .variant-at .ensures) (ready-below (c .before .before .before .before .before .before .before .args .ds) (c .before .before .before .before .before .before .before .args .s .now) (c .before .before .before .before .before .before .before .pre .1 .0) (c .before .before .before .before .before .before .before .pre .1 .2) (c .before .before .before .before .before .before .before .args .i) (c .before .before .before .before .before .before .before .pre .1 .3)))
 
 try-named-returns-2 : (t : ℕ) → try-named-lts.Need-returns-2 (stands-in-reads.Asked, stands-in-reads.Learnt, variant-at-reads.Asked, variant-at-reads.Learnt, base-kind-reads.Asked, base-kind-reads.Learnt, trial-below t, trial.Post) (try-named-at t) try-named.Post
 unfolding Reads
-try-named-returns-2 t c = try-other (c .before .before .before .before .before .before .before .before .before .args .ds) (c .before .before .before .before .before .before .before .before .before .args .s .now) (c .before .before .before .before .before .before .before .before .before .pre .1 .0) (c .before .before .before .before .before .before .before .before .before .pre .1 .2) (c .before .before .before .before .before .before .before .before .before .args .dv) (c .before .before .before .before .before .before .before .before .before .args .v .now) (c .before .before .before .before .before .before .before .before .before .pre .1 .1 .0) (c .before .before .before .before .before .before .before .before .before .pre .1 .1 .1 .0) (c .before .before .before .before .before .before .before .before .before .pre .1 .1 .1 .1) (c .before .before .before .before .before .before .before .before .before .args .i) (c .before .before .before .variant-at .result) (c .before .before .before .variant-at .ensures) (ready-below (c .before .before .before .before .before .before .before .before .before .args .ds) (c .before .before .before .before .before .before .before .before .before .args .s .now) (c .before .before .before .before .before .before .before .before .before .pre .1 .0) (c .before .before .before .before .before .before .before .before .before .pre .1 .2) (c .before .before .before .before .before .before .before .before .before .args .i) (c .before .before .before .before .before .before .before .before .before .pre .1 .3)) (c .before .before .before .before .before .before .before .before .before .args .k) (c .before .base-kind .result) _ _ (rw tail-is at (c .before .base-kind .ensures)) (c .if2 .taken)
+try-named-returns-2 t c = try-other (c .before .before .before .before .before .before .before .before .before .args .ds) (c .before .before .before .before .before .before .before .before .before .args .s .now) (c .before .before .before .before .before .before .before .before .before .pre .1 .0) (c .before .before .before .before .before .before .before .before .before .pre .1 .2) (c .before .before .before .before .before .before .before .before .before .args .dv) (c .before .before .before .before .before .before .before .before .before .args .v .now) (c .before .before .before .before .before .before .before .before .before .pre .1 .1 .0) (c .before .before .before .before .before .before .before .before .before .pre .1 .1 .1 .0) (c .before .before .before .before .before .before .before .before .before .pre .1 .1 .1 .1) (c .before .before .before .before .before .before .before .before .before .args .i) (c .before .before .before .variant-at .result) (c .before .before .before .variant-at .ensures) (ready-below (c .before .before .before .before .before .before .before .before .before .args .ds) (c .before .before .before .before .before .before .before .before .before .args .s .now) (c .before .before .before .before .before .before .before .before .before .pre .1 .0) (c .before .before .before .before .before .before .before .before .before .pre .1 .2) (c .before .before .before .before .before .before .before .before .before .args .i) (c .before .before .before .before .before .before .before .before .before .pre .1 .3)) (c .before .before .before .before .before .before .before .before .before .args .k) (c .before .base-kind .result) _ _ (rw part-to-end at (c .before .base-kind .ensures)) (c .if2 .taken)
 
 try-named-sub-trial : (t : ℕ) → try-named-lts.Need-sub-trial (stands-in-reads.Asked, stands-in-reads.Learnt, variant-at-reads.Asked, variant-at-reads.Learnt, base-kind-reads.Asked, base-kind-reads.Learnt, trial-below t, trial.Post) (try-named-at t) try-named.Post
 try-named-sub-trial t c = c .before .before .before .variant-at .ensures .inside
@@ -1560,14 +1561,14 @@ try-named-sub-trial-2 t c = ready-deep (c .before .before .before .before .befor
 
 try-named-trial-requires : (t : ℕ) → try-named-lts.Need-trial-requires (stands-in-reads.Asked, stands-in-reads.Learnt, variant-at-reads.Asked, variant-at-reads.Learnt, base-kind-reads.Asked, base-kind-reads.Learnt, trial-below t, trial.Post) (try-named-at t) try-named.Post
 unfolding Reads
-try-named-trial-requires t c κs = (omega (arith, c .before .before .before .before .before .before .before .before .before .before .before .pre .0, ready-deep (c .before .before .before .before .before .before .before .before .before .before .before .args .ds) (c .before .before .before .before .before .before .before .before .before .before .before .args .s .now) (c .before .before .before .before .before .before .before .before .before .before .before .pre .1 .0) (c .before .before .before .before .before .before .before .before .before .before .before .pre .1 .2)), (rw tail-is (variant-ready (c .before .before .before .before .before .before .before .before .before .before .before .args .ds) (c .before .before .before .before .before .before .before .before .before .before .before .args .s .now) (c .before .before .before .before .before .before .before .before .before .before .before .pre .1 .0) (c .before .before .before .before .before .before .before .before .before .before .before .pre .1 .2) (c .before .before .before .before .before .before .before .before .before .before .before .args .i) (c .before .before .before .before .before .variant-at .result) (c .before .before .before .before .before .variant-at .ensures) (ready-below (c .before .before .before .before .before .before .before .before .before .before .before .args .ds) (c .before .before .before .before .before .before .before .before .before .before .before .args .s .now) (c .before .before .before .before .before .before .before .before .before .before .before .pre .1 .0) (c .before .before .before .before .before .before .before .before .before .before .before .pre .1 .2) (c .before .before .before .before .before .before .before .before .before .before .before .args .i) (c .before .before .before .before .before .before .before .before .before .before .before .pre .1 .3))), c .before .before .before .before .before .before .before .before .before .before .before .pre .1 .1))
+try-named-trial-requires t c κs = (omega (arith, c .before .before .before .before .before .before .before .before .before .before .before .pre .0, ready-deep (c .before .before .before .before .before .before .before .before .before .before .before .args .ds) (c .before .before .before .before .before .before .before .before .before .before .before .args .s .now) (c .before .before .before .before .before .before .before .before .before .before .before .pre .1 .0) (c .before .before .before .before .before .before .before .before .before .before .before .pre .1 .2)), (rw part-to-end (variant-ready (c .before .before .before .before .before .before .before .before .before .before .before .args .ds) (c .before .before .before .before .before .before .before .before .before .before .before .args .s .now) (c .before .before .before .before .before .before .before .before .before .before .before .pre .1 .0) (c .before .before .before .before .before .before .before .before .before .before .before .pre .1 .2) (c .before .before .before .before .before .before .before .before .before .before .before .args .i) (c .before .before .before .before .before .variant-at .result) (c .before .before .before .before .before .variant-at .ensures) (ready-below (c .before .before .before .before .before .before .before .before .before .before .before .args .ds) (c .before .before .before .before .before .before .before .before .before .before .before .args .s .now) (c .before .before .before .before .before .before .before .before .before .before .before .pre .1 .0) (c .before .before .before .before .before .before .before .before .before .before .before .pre .1 .2) (c .before .before .before .before .before .before .before .before .before .before .before .args .i) (c .before .before .before .before .before .before .before .before .before .before .before .pre .1 .3))), c .before .before .before .before .before .before .before .before .before .before .before .pre .1 .1))
 
 try-named-same-length : (t : ℕ) → try-named-lts.Need-same-length (stands-in-reads.Asked, stands-in-reads.Learnt, variant-at-reads.Asked, variant-at-reads.Learnt, base-kind-reads.Asked, base-kind-reads.Learnt, trial-below t, trial.Post) (try-named-at t) try-named.Post
 try-named-same-length t c = search needs
 
 try-named-returns-3 : (t : ℕ) → try-named-lts.Need-returns-3 (stands-in-reads.Asked, stands-in-reads.Learnt, variant-at-reads.Asked, variant-at-reads.Learnt, base-kind-reads.Asked, base-kind-reads.Learnt, trial-below t, trial.Post) (try-named-at t) try-named.Post
 unfolding Reads
-try-named-returns-3 t c = try-one (c .before .before .before .before .before .before .before .before .before .before .before .before .before .before .args .ds) (c .before .before .before .before .before .before .before .before .before .before .before .before .before .before .args .s .now) (c .before .before .before .before .before .before .before .before .before .before .before .before .before .before .pre .1 .0) (c .before .before .before .before .before .before .before .before .before .before .before .before .before .before .pre .1 .2) (c .before .before .before .before .before .before .before .before .before .before .before .before .before .before .args .dv) (c .before .before .before .before .before .before .before .before .before .before .before .before .before .before .args .v .now) (c .before .before .before .before .before .before .before .before .before .before .before .before .before .before .pre .1 .1 .0) (c .before .before .before .before .before .before .before .before .before .before .before .before .before .before .pre .1 .1 .1 .0) (c .before .before .before .before .before .before .before .before .before .before .before .before .before .before .pre .1 .1 .1 .1) (c .before .before .before .before .before .before .before .before .before .before .before .before .before .before .args .i) (c .before .before .before .before .before .before .before .before .variant-at .result) (c .before .before .before .before .before .before .before .before .variant-at .ensures) (ready-below (c .before .before .before .before .before .before .before .before .before .before .before .before .before .before .args .ds) (c .before .before .before .before .before .before .before .before .before .before .before .before .before .before .args .s .now) (c .before .before .before .before .before .before .before .before .before .before .before .before .before .before .pre .1 .0) (c .before .before .before .before .before .before .before .before .before .before .before .before .before .before .pre .1 .2) (c .before .before .before .before .before .before .before .before .before .before .before .before .before .before .args .i) (c .before .before .before .before .before .before .before .before .before .before .before .before .before .before .pre .1 .3)) (c .before .before .before .before .before .before .before .before .before .before .before .before .before .before .args .k) (c .before .before .before .before .before .before .base-kind .result) _ _ (rw tail-is at (c .before .before .before .before .before .before .base-kind .ensures)) (c .before .before .before .before .before .if2 .left) (rw tail-is at (c .before .before .trial .ensures))
+try-named-returns-3 t c = try-one (c .before .before .before .before .before .before .before .before .before .before .before .before .before .before .args .ds) (c .before .before .before .before .before .before .before .before .before .before .before .before .before .before .args .s .now) (c .before .before .before .before .before .before .before .before .before .before .before .before .before .before .pre .1 .0) (c .before .before .before .before .before .before .before .before .before .before .before .before .before .before .pre .1 .2) (c .before .before .before .before .before .before .before .before .before .before .before .before .before .before .args .dv) (c .before .before .before .before .before .before .before .before .before .before .before .before .before .before .args .v .now) (c .before .before .before .before .before .before .before .before .before .before .before .before .before .before .pre .1 .1 .0) (c .before .before .before .before .before .before .before .before .before .before .before .before .before .before .pre .1 .1 .1 .0) (c .before .before .before .before .before .before .before .before .before .before .before .before .before .before .pre .1 .1 .1 .1) (c .before .before .before .before .before .before .before .before .before .before .before .before .before .before .args .i) (c .before .before .before .before .before .before .before .before .variant-at .result) (c .before .before .before .before .before .before .before .before .variant-at .ensures) (ready-below (c .before .before .before .before .before .before .before .before .before .before .before .before .before .before .args .ds) (c .before .before .before .before .before .before .before .before .before .before .before .before .before .before .args .s .now) (c .before .before .before .before .before .before .before .before .before .before .before .before .before .before .pre .1 .0) (c .before .before .before .before .before .before .before .before .before .before .before .before .before .before .pre .1 .2) (c .before .before .before .before .before .before .before .before .before .before .before .before .before .before .args .i) (c .before .before .before .before .before .before .before .before .before .before .before .before .before .before .pre .1 .3)) (c .before .before .before .before .before .before .before .before .before .before .before .before .before .before .args .k) (c .before .before .before .before .before .before .base-kind .result) _ _ (rw part-to-end at (c .before .before .before .before .before .before .base-kind .ensures)) (c .before .before .before .before .before .if2 .left) (rw part-to-end at (c .before .before .trial .ensures))
 
 pub +any-of+default+entry+fields+find-any+find-named+indexed+keyed+named-of+one-field+resolve-array+resolve-map+resolve-node+resolve-record+resolve-union+tabled+trial+try-any+try-named-spec :
     {M : Type 1} → statement M

@@ -1,8 +1,8 @@
 use borrow.Author.Needs.{needs}
+use borrow.Rule.Slice.PartAt.{part-to-end}
 use mathlib.Core.Path.{sym, ap, _∙_}
 use Rattle.text.specs.Measured.{Reads}
 use Rattle.frame.proofs.Reading.{reads-some}
-use Rattle.buffer.proofs.BuiltLaws.{tail-is}
 use Rattle.resolution.specs.Contract.{foundOf, kindTable, wantedOf}
 use Rattle.resolution.specs.UnionContract.{lookupRead, tableLookup}
 use Rattle.resolution.proofs.UnionReading.{on-read-of, union-parts, table-reads}
@@ -36,7 +36,7 @@ part-look-up-end c = search needs
 
 look-up-requires : tie.Need-look-up-requires
 unfolding Reads
-look-up-requires c κs = rw tail-is (reads-some _ _ (table-reads (c .before .before .before .before .before .before .before .args .depth) (c .before .before .before .before .before .before .before .args .s .now) (c .before .before .before .before .before .before .before .pre .0 .0) (union-parts (c .before .before .before .before .before .before .before .args .depth) (c .before .before .before .before .before .before .before .args .s .now) (c .before .before .before .before .before .before .before .pre .0 .0) (c .before .before .before .before .before .before .before .pre .0 .1 .0) (c .before .before .before .before .before .before .before .pre .0 .1 .1) (c .before .before .before .before .before .before .before .pre .1)) _ _ (c .before .variant-at .ensures) (c .before .before .read2 .ensures)))
+look-up-requires c κs = rw part-to-end (reads-some _ _ (table-reads (c .before .before .before .before .before .before .before .args .depth) (c .before .before .before .before .before .before .before .args .s .now) (c .before .before .before .before .before .before .before .pre .0 .0) (union-parts (c .before .before .before .before .before .before .before .args .depth) (c .before .before .before .before .before .before .before .args .s .now) (c .before .before .before .before .before .before .before .pre .0 .0) (c .before .before .before .before .before .before .before .pre .0 .1 .0) (c .before .before .before .before .before .before .before .pre .0 .1 .1) (c .before .before .before .before .before .before .before .pre .1)) _ _ (c .before .variant-at .ensures) (c .before .before .read2 .ensures)))
 
 returns : tie.Need-returns
 unfolding Reads foundOf tableLookup wantedOf
@@ -44,7 +44,7 @@ returns c = on-read-of _ _ (c .before .before .before .pre .0 .0) (c .before .be
 
 returns-2 : tie.Need-returns-2
 unfolding Reads lookupRead tableLookup wantedOf
-returns-2 c = on-read-of _ _ (c .before .before .before .before .before .before .before .before .pre .0 .0) (c .before .before .before .before .before .before .before .before .pre .0 .1 .0) (c .before .before .before .before .before .before .before .before .pre .0 .1 .1) (rw tail-is at (c .look-up .ensures) ∙ ap (λ x. foundOf (lookupRead (c .before .before .before .before .before .kind .given .0 .0) x)) (table-reads (c .before .before .before .before .before .before .before .before .args .depth) (c .before .before .before .before .before .before .before .before .args .s .now) (c .before .before .before .before .before .before .before .before .pre .0 .0) (union-parts (c .before .before .before .before .before .before .before .before .args .depth) (c .before .before .before .before .before .before .before .before .args .s .now) (c .before .before .before .before .before .before .before .before .pre .0 .0) (c .before .before .before .before .before .before .before .before .pre .0 .1 .0) (c .before .before .before .before .before .before .before .before .pre .0 .1 .1) (c .before .before .before .before .before .before .before .before .pre .1)) _ _ (c .before .before .variant-at .ensures) (c .before .before .before .read2 .ensures)) ∙ ap (λ x. foundOf (tableLookup (kindTable (c .before .before .before .before .before .before .before .before .pre .0 .0)) (wantedOf x))) (sym (c .before .before .before .before .before .kind .given .1)))
+returns-2 c = on-read-of _ _ (c .before .before .before .before .before .before .before .before .pre .0 .0) (c .before .before .before .before .before .before .before .before .pre .0 .1 .0) (c .before .before .before .before .before .before .before .before .pre .0 .1 .1) (rw part-to-end at (c .look-up .ensures) ∙ ap (λ x. foundOf (lookupRead (c .before .before .before .before .before .kind .given .0 .0) x)) (table-reads (c .before .before .before .before .before .before .before .before .args .depth) (c .before .before .before .before .before .before .before .before .args .s .now) (c .before .before .before .before .before .before .before .before .pre .0 .0) (union-parts (c .before .before .before .before .before .before .before .before .args .depth) (c .before .before .before .before .before .before .before .before .args .s .now) (c .before .before .before .before .before .before .before .before .pre .0 .0) (c .before .before .before .before .before .before .before .before .pre .0 .1 .0) (c .before .before .before .before .before .before .before .before .pre .0 .1 .1) (c .before .before .before .before .before .before .before .before .pre .1)) _ _ (c .before .before .variant-at .ensures) (c .before .before .before .read2 .ensures)) ∙ ap (λ x. foundOf (tableLookup (kindTable (c .before .before .before .before .before .before .before .before .pre .0 .0)) (wantedOf x))) (sym (c .before .before .before .before .before .kind .given .1)))
 
 pub table-position-spec : {M : Type 1} → statement M
 table-position-spec =

@@ -2,10 +2,10 @@ use native.Mathlib.Omega.{arith}
 use Prim.Native.Nat.{_-_, _≤_}
 use mathlib.Core.Path.{_≡_, subst}
 use lib.ListN.{length-drop}
+use borrow.Rule.Slice.PartAt.{part-to-end}
 use Rattle.text.specs.Measured.{Reads}
 use Rattle.frame.proofs.Measuring.{spans-le}
 use Rattle.frame.proofs.SchemaNodes.{schema-there}
-use Rattle.buffer.proofs.BuiltLaws.{tail-is}
 use Rattle.resolution.specs.UnionContract.{Passed}
 use Rattle.resolution.proofs.UnionReading.{union-parts, passed-start, passed-reads, passed-step}
 use Rattle.resolution.proofs.union.variant_at.Statement.{statement}
@@ -35,10 +35,10 @@ unfolding Reads
 sub-schema-len-2 c = schema-there (c .before .before .before .before .args .depth) (c .before .before .before .before .args .s .now) (c .before .before .before .before .pre .0) .0
 
 schema-len-requires : tie.Need-schema-len-requires Inv-loop μ-loop
-schema-len-requires c κs = rw tail-is (passed-reads (c .before .before .before .before .args .depth) (c .before .before .before .before .args .s .now) (c .before .before .loop .j) (c .before .before .loop .at) (c .before .before .loop .inv .1) (omega (arith, c .before .before .before .before .pre .2, c .before .loop-test .taken)))
+schema-len-requires c κs = rw part-to-end (passed-reads (c .before .before .before .before .args .depth) (c .before .before .before .before .args .s .now) (c .before .before .loop .j) (c .before .before .loop .at) (c .before .before .loop .inv .1) (omega (arith, c .before .before .before .before .pre .2, c .before .loop-test .taken)))
 
 add-at : tie.Need-add-at Inv-loop μ-loop
-add-at c = omega (arith, spans-le _ _ _ (rw tail-is at (c .schema-len .ensures)), length-drop (c .before .before .before .loop .at) (c .before .before .before .before .before .args .s .now), c .before .before .before .loop .inv .1 .inside)
+add-at c = omega (arith, spans-le _ _ _ (rw part-to-end at (c .schema-len .ensures)), length-drop (c .before .before .before .loop .at) (c .before .before .before .before .before .args .s .now), c .before .before .before .loop .inv .1 .inside)
 
 add-j : tie.Need-add-j Inv-loop μ-loop
 add-j c = omega arith
@@ -47,7 +47,7 @@ loop-less : tie.Need-loop-less Inv-loop μ-loop
 loop-less c = omega arith
 
 loop-again : tie.Need-loop-again Inv-loop μ-loop
-loop-again c = (omega arith, passed-step (c .before .before .before .before .before .args .depth) (c .before .before .before .before .before .args .s .now) (c .before .before .before .loop .j) (c .before .before .before .loop .at) (c .before .before .before .loop .inv .1) (omega (arith, c .before .before .before .before .before .pre .2, c .before .before .loop-test .taken)) _ (rw tail-is at (c .schema-len .ensures)))
+loop-again c = (omega arith, passed-step (c .before .before .before .before .before .args .depth) (c .before .before .before .before .before .args .s .now) (c .before .before .before .loop .j) (c .before .before .before .loop .at) (c .before .before .before .loop .inv .1) (omega (arith, c .before .before .before .before .before .pre .2, c .before .before .loop-test .taken)) _ (rw part-to-end at (c .schema-len .ensures)))
 
 returns : tie.Need-returns Inv-loop μ-loop
 returns c = let e : c .before .loop .j ≡ c .before .before .before .args .i = omega arith in subst (λ k. Passed (c .before .before .before .args .depth) (c .before .before .before .args .s .now) k (c .before .loop .at)) e (c .before .loop .inv .1)

@@ -8,7 +8,6 @@ use Rattle.frame.specs.Tree.{Schema}
 use Rattle.frame.specs.Readers.{readList}
 use Rattle.frame.specs.SchemaFrame.{readField, readSchema, variantsOf}
 use Rattle.frame.specs.Sound.{schemaSound, variantsSound}
-use Rattle.frame.proofs.Reading.{suffix}
 use Rattle.frame.proofs.Measuring.{long, measured-broken, held, checks-none, checks-broken, checks-reads, checks-measured, checks-map}
 use Rattle.frame.proofs.Counting.{list-short, Going, going-list, going-next, going-none, going-end}
 use Rattle.frame.proofs.SchemaNodes.{schema-bottom, schema-empty, schema-node}
@@ -17,6 +16,7 @@ use Rattle.schema.proofs.Nodes.{bare-checks, node-checks, array-content
 use Rattle.schema.proofs.Checking.{variant-there, variants-step, count-there, union-checks, record-checks}
 use borrow.Fn.Kinds.{In}
 use borrow.Fn.PlainCycle.{Measures, is, falls, and}
+use borrow.Rule.Slice.PartAt.{part-to-end}
 use Rattle.schema.proofs.check.content_check.Reads as content-check
 use Rattle.schema.proofs.check.content_check.Kinds as content-check-kinds
 use Rattle.schema.proofs.check.+content_check+field_check+fields_check+record_check+schema_check+union_check+variants_check.Lts-content_check as content-check-lts
@@ -206,25 +206,25 @@ field-check-part-default-check-start : (t : ℕ) → field-check-lts.Need-part-d
 field-check-part-default-check-start t c = omega (arith, (long _ _ _ (rw (c .before .a .given .1) at (c .before .before .before .text-len .ensures))) .inside)
 
 field-check-returns-2 : (t : ℕ) → field-check-lts.Need-returns-2 (field-check-claims t) (field-check-at t) field-check.Post
-field-check-returns-2 t c = checks-none _ _ _ (field-broken₂ _ _ _ (rw (c .before .before .before .before .before .a .given .1) at (c .before .before .before .before .before .before .before .text-len .ensures)) (rw (c .enum-told2 .given .1, suffix) at (c .before .before .default-check .ensures)))
+field-check-returns-2 t c = checks-none _ _ _ (field-broken₂ _ _ _ (rw (c .before .before .before .before .before .a .given .1) at (c .before .before .before .before .before .before .before .text-len .ensures)) (rw (c .enum-told2 .given .1, part-to-end) at (c .before .before .default-check .ensures)))
 
 field-check-add-e : (t : ℕ) → field-check-lts.Need-add-e (field-check-claims t) (field-check-at t) field-check.Post
-field-check-add-e t c = omega (arith, (long _ _ _ (rw (c .before .before .before .before .before .before .a .given .1) at (c .before .before .before .before .before .before .before .before .text-len .ensures))) .inside, (held _ _ _ _ _ (rw (c .before .b .given .1, suffix) at (c .before .before .before .default-check .ensures))) .inside, length-drop (c .before .before .before .before .before .before .a .given .0 .0) (c .before .before .before .before .before .before .before .before .before .before .args .s .now), c .before .before .before .before .before .before .before .before .before .before .good)
+field-check-add-e t c = omega (arith, (long _ _ _ (rw (c .before .before .before .before .before .before .a .given .1) at (c .before .before .before .before .before .before .before .before .text-len .ensures))) .inside, (held _ _ _ _ _ (rw (c .before .b .given .1, part-to-end) at (c .before .before .before .default-check .ensures))) .inside, length-drop (c .before .before .before .before .before .before .a .given .0 .0) (c .before .before .before .before .before .before .before .before .before .before .args .s .now), c .before .before .before .before .before .before .before .before .before .before .good)
 
 field-check-sub-schema-check : (t : ℕ) → field-check-lts.Need-sub-schema-check (field-check-claims t) (field-check-at t) field-check.Post
-field-check-sub-schema-check t c = omega (arith, (long _ _ _ (rw (c .before .before .before .before .before .before .a .given .1) at (c .before .before .before .before .before .before .before .before .text-len .ensures))) .inside, (held _ _ _ _ _ (rw (c .before .b .given .1, suffix) at (c .before .before .before .default-check .ensures))) .inside, length-drop (c .before .before .before .before .before .before .a .given .0 .0) (c .before .before .before .before .before .before .before .before .before .before .args .s .now))
+field-check-sub-schema-check t c = omega (arith, (long _ _ _ (rw (c .before .before .before .before .before .before .a .given .1) at (c .before .before .before .before .before .before .before .before .text-len .ensures))) .inside, (held _ _ _ _ _ (rw (c .before .b .given .1, part-to-end) at (c .before .before .before .default-check .ensures))) .inside, length-drop (c .before .before .before .before .before .before .a .given .0 .0) (c .before .before .before .before .before .before .before .before .before .before .args .s .now))
 
 field-check-part-schema-check-start : (t : ℕ) → field-check-lts.Need-part-schema-check-start (field-check-claims t) (field-check-at t) field-check.Post
-field-check-part-schema-check-start t c = omega (arith, (long _ _ _ (rw (c .before .before .before .before .before .before .a .given .1) at (c .before .before .before .before .before .before .before .before .text-len .ensures))) .inside, (held _ _ _ _ _ (rw (c .before .b .given .1, suffix) at (c .before .before .before .default-check .ensures))) .inside, length-drop (c .before .before .before .before .before .before .a .given .0 .0) (c .before .before .before .before .before .before .before .before .before .before .args .s .now))
+field-check-part-schema-check-start t c = omega (arith, (long _ _ _ (rw (c .before .before .before .before .before .before .a .given .1) at (c .before .before .before .before .before .before .before .before .text-len .ensures))) .inside, (held _ _ _ _ _ (rw (c .before .b .given .1, part-to-end) at (c .before .before .before .default-check .ensures))) .inside, length-drop (c .before .before .before .before .before .before .a .given .0 .0) (c .before .before .before .before .before .before .before .before .before .before .args .s .now))
 
 field-check-returns-3 : (t : ℕ) → field-check-lts.Need-returns-3 (field-check-claims t) (field-check-at t) field-check.Post
-field-check-returns-3 t c = checks-none _ _ _ (field-broken₃ _ _ _ (rw (c .before .before .before .before .before .before .before .before .before .before .a .given .1) at (c .before .before .before .before .before .before .before .before .before .before .before .before .text-len .ensures)) _ _ (rw (c .before .before .before .before .before .b .given .1, suffix) at (c .before .before .before .before .before .before .before .default-check .ensures)) (checks-broken _ _ _ (rw (c .enum-told3 .given .1, suffix) at (c .before .before .schema-check .ensures))))
+field-check-returns-3 t c = checks-none _ _ _ (field-broken₃ _ _ _ (rw (c .before .before .before .before .before .before .before .before .before .before .a .given .1) at (c .before .before .before .before .before .before .before .before .before .before .before .before .text-len .ensures)) _ _ (rw (c .before .before .before .before .before .b .given .1, part-to-end) at (c .before .before .before .before .before .before .before .default-check .ensures)) (checks-broken _ _ _ (rw (c .enum-told3 .given .1, part-to-end) at (c .before .before .schema-check .ensures))))
 
 field-check-add-t12 : (t : ℕ) → field-check-lts.Need-add-t12 (field-check-claims t) (field-check-at t) field-check.Post
-field-check-add-t12 t c = omega (arith, (long _ _ _ (rw (c .before .before .before .before .before .before .before .before .before .before .before .a .given .1) at (c .before .before .before .before .before .before .before .before .before .before .before .before .before .text-len .ensures))) .inside, (held _ _ _ _ _ (rw (c .before .before .before .before .before .before .b .given .1, suffix) at (c .before .before .before .before .before .before .before .before .default-check .ensures))) .inside, length-drop (c .before .before .before .before .before .before .before .before .before .before .before .a .given .0 .0) (c .before .before .before .before .before .before .before .before .before .before .before .before .before .before .before .args .s .now), (held _ _ _ _ _ (rw (c .before .m .given .1, suffix) at (c .before .before .before .schema-check .ensures))) .inside, length-drop (c .before .before .before .before .before .before .before .before .before .before .before .a .given .0 .0 + c .before .before .before .before .before .before .b .given .0 .0) (c .before .before .before .before .before .before .before .before .before .before .before .before .before .before .before .args .s .now), c .before .before .before .before .before .before .before .before .before .before .before .before .before .before .before .good)
+field-check-add-t12 t c = omega (arith, (long _ _ _ (rw (c .before .before .before .before .before .before .before .before .before .before .before .a .given .1) at (c .before .before .before .before .before .before .before .before .before .before .before .before .before .text-len .ensures))) .inside, (held _ _ _ _ _ (rw (c .before .before .before .before .before .before .b .given .1, part-to-end) at (c .before .before .before .before .before .before .before .before .default-check .ensures))) .inside, length-drop (c .before .before .before .before .before .before .before .before .before .before .before .a .given .0 .0) (c .before .before .before .before .before .before .before .before .before .before .before .before .before .before .before .args .s .now), (held _ _ _ _ _ (rw (c .before .m .given .1, part-to-end) at (c .before .before .before .schema-check .ensures))) .inside, length-drop (c .before .before .before .before .before .before .before .before .before .before .before .a .given .0 .0 + c .before .before .before .before .before .before .b .given .0 .0) (c .before .before .before .before .before .before .before .before .before .before .before .before .before .before .before .args .s .now), c .before .before .before .before .before .before .before .before .before .before .before .before .before .before .before .good)
 
 field-check-returns-4 : (t : ℕ) → field-check-lts.Need-returns-4 (field-check-claims t) (field-check-at t) field-check.Post
-field-check-returns-4 t c = field-checks _ _ _ (rw (c .before .before .before .before .before .before .before .before .before .before .before .before .a .given .1) at (c .before .before .before .before .before .before .before .before .before .before .before .before .before .before .text-len .ensures)) _ _ (rw (c .before .before .before .before .before .before .before .b .given .1, suffix) at (c .before .before .before .before .before .before .before .before .before .default-check .ensures)) _ _ _ (rw (c .before .before .m .given .1, suffix) at (c .before .before .before .before .schema-check .ensures)) (c .both .ensures)
+field-check-returns-4 t c = field-checks _ _ _ (rw (c .before .before .before .before .before .before .before .before .before .before .before .before .a .given .1) at (c .before .before .before .before .before .before .before .before .before .before .before .before .before .before .text-len .ensures)) _ _ (rw (c .before .before .before .before .before .before .before .b .given .1, part-to-end) at (c .before .before .before .before .before .before .before .before .before .default-check .ensures)) _ _ _ (rw (c .before .before .m .given .1, part-to-end) at (c .before .before .before .before .schema-check .ensures)) (c .both .ensures)
 
 abbrev fields-check-Inv-loop : fields-check-lts.InvT-loop
 fields-check-Inv-loop s depth left₀ at₀ ok₀ left at ok = Going (readList (readField (readSchema depth)) s) (readField (readSchema depth)) eachSound s at left ok eachSound
@@ -248,14 +248,14 @@ fields-check-part-field-check-start : (t : ℕ) → fields-check-lts.Need-part-f
 fields-check-part-field-check-start t c = omega (arith, c .before .loop .inv .inside)
 
 fields-check-returns-2 : (t : ℕ) → fields-check-lts.Need-returns-2 (fields-check-claims t) (fields-check-at t) fields-check.Post fields-check-Inv-loop fields-check-μ-loop
-fields-check-returns-2 t c = checks-none _ _ _ (going-none _ _ _ _ _ _ _ _ (c .before .before .before .before .before .loop .inv) (c .before .before .before .before .loop-test .taken) (checks-broken _ _ _ (rw (c .enum-told .given .1, suffix) at (c .before .before .field-check .ensures))))
+fields-check-returns-2 t c = checks-none _ _ _ (going-none _ _ _ _ _ _ _ _ (c .before .before .before .before .before .loop .inv) (c .before .before .before .before .loop-test .taken) (checks-broken _ _ _ (rw (c .enum-told .given .1, part-to-end) at (c .before .before .field-check .ensures))))
 
 fields-check-add-at : (t : ℕ) → fields-check-lts.Need-add-at (fields-check-claims t) (fields-check-at t) fields-check.Post fields-check-Inv-loop fields-check-μ-loop
-fields-check-add-at t c = omega (arith, (held _ _ _ _ _ (rw (c .before .before .m .given .1, suffix) at (c .before .before .before .before .field-check .ensures))) .inside, length-drop (c .before .before .before .before .before .before .before .loop .at) (c .before .before .before .before .before .before .before .before .before .before .before .args .s .now), c .before .before .before .before .before .before .before .before .before .before .before .good, c .before .before .before .before .before .before .before .loop .inv .inside)
+fields-check-add-at t c = omega (arith, (held _ _ _ _ _ (rw (c .before .before .m .given .1, part-to-end) at (c .before .before .before .before .field-check .ensures))) .inside, length-drop (c .before .before .before .before .before .before .before .loop .at) (c .before .before .before .before .before .before .before .before .before .before .before .args .s .now), c .before .before .before .before .before .before .before .before .before .before .before .good, c .before .before .before .before .before .before .before .loop .inv .inside)
 
 fields-check-loop-again : (t : ℕ) → fields-check-lts.Need-loop-again (fields-check-claims t) (fields-check-at t) fields-check.Post fields-check-Inv-loop fields-check-μ-loop
 unfolding eachSound
-fields-check-loop-again t c = going-next _ _ _ _ _ _ _ eachSound (c .before .before .before .before .before .before .before .loop .inv) fieldSound (λ a l. refl) (c .before .before .before .before .before .before .loop-test .taken) _ _ _ (rw (c .before .before .m .given .1, suffix) at (c .before .before .before .before .field-check .ensures)) (c .both .ensures)
+fields-check-loop-again t c = going-next _ _ _ _ _ _ _ eachSound (c .before .before .before .before .before .before .before .loop .inv) fieldSound (λ a l. refl) (c .before .before .before .before .before .before .loop-test .taken) _ _ _ (rw (c .before .before .m .given .1, part-to-end) at (c .before .before .before .before .field-check .ensures)) (c .both .ensures)
 
 fields-check-returns-3 : (t : ℕ) → fields-check-lts.Need-returns-3 (fields-check-claims t) (fields-check-at t) fields-check.Post fields-check-Inv-loop fields-check-μ-loop
 unfolding eachSound
@@ -280,13 +280,13 @@ schema-check-returns-3 : (t : ℕ) → schema-check-lts.Need-returns-3 (schema-c
 schema-check-returns-3 t c = bare-checks _ _ (c .before .before .before .before .if1 .left) (c .before .before .before .if2 .left) (sym (c .before .is-bare .ensures) ∙ c .if3 .taken)
 
 schema-check-returns-4 : (t : ℕ) → schema-check-lts.Need-returns-4 (schema-check-claims t) (schema-check-at t) schema-check.Post
-schema-check-returns-4 t c = checks-none _ _ _ (schema-node _ _ (c .before .before .before .before .before .before .before .before .if1 .left) (c .before .before .before .before .before .before .before .if2 .left) ∙ checks-broken _ _ _ (rw (c .enum-told .given .1, suffix) at (c .before .before .content-check .ensures)))
+schema-check-returns-4 t c = checks-none _ _ _ (schema-node _ _ (c .before .before .before .before .before .before .before .before .if1 .left) (c .before .before .before .before .before .before .before .if2 .left) ∙ checks-broken _ _ _ (rw (c .enum-told .given .1, part-to-end) at (c .before .before .content-check .ensures)))
 
 schema-check-add-t7 : (t : ℕ) → schema-check-lts.Need-add-t7 (schema-check-claims t) (schema-check-at t) schema-check.Post
-schema-check-add-t7 t c = omega (arith, (held _ _ _ _ _ (rw (c .before .m .given .1, suffix) at (c .before .before .before .content-check .ensures))) .inside, length-drop 1 (c .before .before .before .before .before .before .before .before .before .before .before .args .s .now), c .before .before .before .before .before .before .before .before .before .before .before .good)
+schema-check-add-t7 t c = omega (arith, (held _ _ _ _ _ (rw (c .before .m .given .1, part-to-end) at (c .before .before .before .content-check .ensures))) .inside, length-drop 1 (c .before .before .before .before .before .before .before .before .before .before .before .args .s .now), c .before .before .before .before .before .before .before .before .before .before .before .good)
 
 schema-check-returns-5 : (t : ℕ) → schema-check-lts.Need-returns-5 (schema-check-claims t) (schema-check-at t) schema-check.Post
-schema-check-returns-5 t c = node-checks _ _ _ _ (c .before .before .before .before .before .before .before .before .before .if1 .left) (c .before .before .before .before .before .before .before .before .if2 .left) (rw (c .before .m .given .1, suffix) at (c .before .before .before .content-check .ensures))
+schema-check-returns-5 t c = node-checks _ _ _ _ (c .before .before .before .before .before .before .before .before .before .if1 .left) (c .before .before .before .before .before .before .before .before .if2 .left) (rw (c .before .m .given .1, part-to-end) at (c .before .before .before .content-check .ensures))
 
 union-check-returns : (t : ℕ) → union-check-lts.Need-returns (union-check-claims t) (union-check-at t) union-check.Post
 union-check-returns t c = checks-none _ _ _ (union-none _ _ (checks-broken _ _ _ (rw (c .enum-told .given .1) at (c .before .before .variants-check .ensures))))
@@ -304,25 +304,25 @@ union-check-part-leads-check-start : (t : ℕ) → union-check-lts.Need-part-lea
 union-check-part-leads-check-start t c = omega (arith, (held _ _ _ _ _ (rw (c .before .before .a .given .1) at (c .before .before .before .before .variants-check .ensures))) .inside)
 
 union-check-returns-2 : (t : ℕ) → union-check-lts.Need-returns-2 (union-check-claims t) (union-check-at t) union-check.Post
-union-check-returns-2 t c = checks-none _ _ _ (union-broken₂ _ _ _ (checks-measured _ _ _ _ _ (rw (c .before .before .before .before .before .before .a .given .1) at (c .before .before .before .before .before .before .before .before .variants-check .ensures))) _ (rw (c .enum-told2 .given .1, suffix) at (c .before .before .leads-check .ensures)))
+union-check-returns-2 t c = checks-none _ _ _ (union-broken₂ _ _ _ (checks-measured _ _ _ _ _ (rw (c .before .before .before .before .before .before .a .given .1) at (c .before .before .before .before .before .before .before .before .variants-check .ensures))) _ (rw (c .enum-told2 .given .1, part-to-end) at (c .before .before .leads-check .ensures)))
 
 union-check-add-e : (t : ℕ) → union-check-lts.Need-add-e (union-check-claims t) (union-check-at t) union-check.Post
-union-check-add-e t c = omega (arith, (held _ _ _ _ _ (rw (c .before .before .before .before .before .before .before .a .given .1) at (c .before .before .before .before .before .before .before .before .before .variants-check .ensures))) .inside, (held _ _ _ _ _ (rw (c .before .b .given .1, suffix) at (c .before .before .before .leads-check .ensures))) .inside, length-drop (c .before .before .before .before .before .before .before .a .given .0 .0) (c .before .before .before .before .before .before .before .before .before .before .before .args .s .now), c .before .before .before .before .before .before .before .before .before .before .before .good)
+union-check-add-e t c = omega (arith, (held _ _ _ _ _ (rw (c .before .before .before .before .before .before .before .a .given .1) at (c .before .before .before .before .before .before .before .before .before .variants-check .ensures))) .inside, (held _ _ _ _ _ (rw (c .before .b .given .1, part-to-end) at (c .before .before .before .leads-check .ensures))) .inside, length-drop (c .before .before .before .before .before .before .before .a .given .0 .0) (c .before .before .before .before .before .before .before .before .before .before .before .args .s .now), c .before .before .before .before .before .before .before .before .before .before .before .good)
 
 union-check-sub-positions-check : (t : ℕ) → union-check-lts.Need-sub-positions-check (union-check-claims t) (union-check-at t) union-check.Post
-union-check-sub-positions-check t c = omega (arith, (held _ _ _ _ _ (rw (c .before .before .before .before .before .before .before .a .given .1) at (c .before .before .before .before .before .before .before .before .before .variants-check .ensures))) .inside, (held _ _ _ _ _ (rw (c .before .b .given .1, suffix) at (c .before .before .before .leads-check .ensures))) .inside, length-drop (c .before .before .before .before .before .before .before .a .given .0 .0) (c .before .before .before .before .before .before .before .before .before .before .before .args .s .now))
+union-check-sub-positions-check t c = omega (arith, (held _ _ _ _ _ (rw (c .before .before .before .before .before .before .before .a .given .1) at (c .before .before .before .before .before .before .before .before .before .variants-check .ensures))) .inside, (held _ _ _ _ _ (rw (c .before .b .given .1, part-to-end) at (c .before .before .before .leads-check .ensures))) .inside, length-drop (c .before .before .before .before .before .before .before .a .given .0 .0) (c .before .before .before .before .before .before .before .before .before .before .before .args .s .now))
 
 union-check-part-positions-check-start : (t : ℕ) → union-check-lts.Need-part-positions-check-start (union-check-claims t) (union-check-at t) union-check.Post
-union-check-part-positions-check-start t c = omega (arith, (held _ _ _ _ _ (rw (c .before .before .before .before .before .before .before .a .given .1) at (c .before .before .before .before .before .before .before .before .before .variants-check .ensures))) .inside, (held _ _ _ _ _ (rw (c .before .b .given .1, suffix) at (c .before .before .before .leads-check .ensures))) .inside, length-drop (c .before .before .before .before .before .before .before .a .given .0 .0) (c .before .before .before .before .before .before .before .before .before .before .before .args .s .now))
+union-check-part-positions-check-start t c = omega (arith, (held _ _ _ _ _ (rw (c .before .before .before .before .before .before .before .a .given .1) at (c .before .before .before .before .before .before .before .before .before .variants-check .ensures))) .inside, (held _ _ _ _ _ (rw (c .before .b .given .1, part-to-end) at (c .before .before .before .leads-check .ensures))) .inside, length-drop (c .before .before .before .before .before .before .before .a .given .0 .0) (c .before .before .before .before .before .before .before .before .before .before .before .args .s .now))
 
 union-check-returns-3 : (t : ℕ) → union-check-lts.Need-returns-3 (union-check-claims t) (union-check-at t) union-check.Post
-union-check-returns-3 t c = checks-none _ _ _ (union-broken₃ _ _ _ (checks-measured _ _ _ _ _ (rw (c .before .before .before .before .before .before .before .before .before .before .before .a .given .1) at (c .before .before .before .before .before .before .before .before .before .before .before .before .before .variants-check .ensures))) _ _ _ (rw (c .before .before .before .before .before .b .given .1, suffix) at (c .before .before .before .before .before .before .before .leads-check .ensures)) (rw (c .enum-told3 .given .1, suffix) at (c .before .before .positions-check .ensures)))
+union-check-returns-3 t c = checks-none _ _ _ (union-broken₃ _ _ _ (checks-measured _ _ _ _ _ (rw (c .before .before .before .before .before .before .before .before .before .before .before .a .given .1) at (c .before .before .before .before .before .before .before .before .before .before .before .before .before .variants-check .ensures))) _ _ _ (rw (c .before .before .before .before .before .b .given .1, part-to-end) at (c .before .before .before .before .before .before .before .leads-check .ensures)) (rw (c .enum-told3 .given .1, part-to-end) at (c .before .before .positions-check .ensures)))
 
 union-check-add-t16 : (t : ℕ) → union-check-lts.Need-add-t16 (union-check-claims t) (union-check-at t) union-check.Post
-union-check-add-t16 t c = omega (arith, (held _ _ _ _ _ (rw (c .before .before .before .before .before .before .before .before .before .before .before .before .before .before .before .a .given .1) at (c .before .before .before .before .before .before .before .before .before .before .before .before .before .before .before .before .before .variants-check .ensures))) .inside, (held _ _ _ _ _ (rw (c .before .before .before .before .before .before .before .before .before .b .given .1, suffix) at (c .before .before .before .before .before .before .before .before .before .before .before .leads-check .ensures))) .inside, length-drop (c .before .before .before .before .before .before .before .before .before .before .before .before .before .before .before .a .given .0 .0) (c .before .before .before .before .before .before .before .before .before .before .before .before .before .before .before .before .before .before .before .args .s .now), (held _ _ _ _ _ (rw (c .before .before .before .before .d .given .1, suffix) at (c .before .before .before .before .before .before .positions-check .ensures))) .inside, length-drop (c .before .before .before .before .before .before .before .before .before .before .before .before .before .before .before .a .given .0 .0 + c .before .before .before .before .before .before .before .before .before .b .given .0 .0) (c .before .before .before .before .before .before .before .before .before .before .before .before .before .before .before .before .before .before .before .args .s .now), c .before .before .before .before .before .before .before .before .before .before .before .before .before .before .before .before .before .before .before .good)
+union-check-add-t16 t c = omega (arith, (held _ _ _ _ _ (rw (c .before .before .before .before .before .before .before .before .before .before .before .before .before .before .before .a .given .1) at (c .before .before .before .before .before .before .before .before .before .before .before .before .before .before .before .before .before .variants-check .ensures))) .inside, (held _ _ _ _ _ (rw (c .before .before .before .before .before .before .before .before .before .b .given .1, part-to-end) at (c .before .before .before .before .before .before .before .before .before .before .before .leads-check .ensures))) .inside, length-drop (c .before .before .before .before .before .before .before .before .before .before .before .before .before .before .before .a .given .0 .0) (c .before .before .before .before .before .before .before .before .before .before .before .before .before .before .before .before .before .before .before .args .s .now), (held _ _ _ _ _ (rw (c .before .before .before .before .d .given .1, part-to-end) at (c .before .before .before .before .before .before .positions-check .ensures))) .inside, length-drop (c .before .before .before .before .before .before .before .before .before .before .before .before .before .before .before .a .given .0 .0 + c .before .before .before .before .before .before .before .before .before .b .given .0 .0) (c .before .before .before .before .before .before .before .before .before .before .before .before .before .before .before .before .before .before .before .args .s .now), c .before .before .before .before .before .before .before .before .before .before .before .before .before .before .before .before .before .before .before .good)
 
 union-check-returns-4 : (t : ℕ) → union-check-lts.Need-returns-4 (union-check-claims t) (union-check-at t) union-check.Post
-union-check-returns-4 t c = union-checks _ _ _ _ (rw (c .before .before .before .before .before .before .before .before .before .before .before .before .before .before .before .a .given .1) at (c .before .before .before .before .before .before .before .before .before .before .before .before .before .before .before .before .before .variants-check .ensures)) _ (c .before .before .before .before .before .before .before .before .before .before .before .before .before .read2 .ensures) _ _ (rw (c .before .before .before .before .before .before .before .before .before .b .given .1, suffix) at (c .before .before .before .before .before .before .before .before .before .before .before .leads-check .ensures)) _ _ (rw (c .before .before .before .before .d .given .1, suffix) at (c .before .before .before .before .before .before .positions-check .ensures)) _ _ _ (c .before .before .both .ensures) (c .before .both2 .ensures) (c .both3 .ensures)
+union-check-returns-4 t c = union-checks _ _ _ _ (rw (c .before .before .before .before .before .before .before .before .before .before .before .before .before .before .before .a .given .1) at (c .before .before .before .before .before .before .before .before .before .before .before .before .before .before .before .before .before .variants-check .ensures)) _ (c .before .before .before .before .before .before .before .before .before .before .before .before .before .read2 .ensures) _ _ (rw (c .before .before .before .before .before .before .before .before .before .b .given .1, part-to-end) at (c .before .before .before .before .before .before .before .before .before .before .before .leads-check .ensures)) _ _ (rw (c .before .before .before .before .d .given .1, part-to-end) at (c .before .before .before .before .before .before .positions-check .ensures)) _ _ _ (c .before .before .both .ensures) (c .before .both2 .ensures) (c .both3 .ensures)
 
 abbrev variants-check-Inv-loop : variants-check-lts.InvT-loop
 variants-check-Inv-loop s depth left₀ at₀ ok₀ left at ok = Going (readList (readSchema depth) s) (readSchema depth) noUnions s at left ok noUnions
@@ -346,16 +346,16 @@ variants-check-part-schema-check-start : (t : ℕ) → variants-check-lts.Need-p
 variants-check-part-schema-check-start t c = omega (arith, c .before .loop .inv .inside)
 
 variants-check-returns-2 : (t : ℕ) → variants-check-lts.Need-returns-2 (variants-check-claims t) (variants-check-at t) variants-check.Post variants-check-Inv-loop variants-check-μ-loop
-variants-check-returns-2 t c = checks-none _ _ _ (going-none _ _ _ _ _ _ _ _ (c .before .before .before .before .before .loop .inv) (c .before .before .before .before .loop-test .taken) (checks-broken _ _ _ (rw (c .enum-told .given .1, suffix) at (c .before .before .schema-check .ensures))))
+variants-check-returns-2 t c = checks-none _ _ _ (going-none _ _ _ _ _ _ _ _ (c .before .before .before .before .before .loop .inv) (c .before .before .before .before .loop-test .taken) (checks-broken _ _ _ (rw (c .enum-told .given .1, part-to-end) at (c .before .before .schema-check .ensures))))
 
 variants-check-shared-slice-read-kind : (t : ℕ) → variants-check-lts.Need-shared-slice-read-kind (variants-check-claims t) (variants-check-at t) variants-check.Post variants-check-Inv-loop variants-check-μ-loop
-variants-check-shared-slice-read-kind t c = variant-there _ _ _ _ _ (rw (c .before .before .m .given .1, suffix) at (c .before .before .before .before .schema-check .ensures))
+variants-check-shared-slice-read-kind t c = variant-there _ _ _ _ _ (rw (c .before .before .m .given .1, part-to-end) at (c .before .before .before .before .schema-check .ensures))
 
 variants-check-add-at : (t : ℕ) → variants-check-lts.Need-add-at (variants-check-claims t) (variants-check-at t) variants-check.Post variants-check-Inv-loop variants-check-μ-loop
-variants-check-add-at t c = omega (arith, (held _ _ _ _ _ (rw (c .before .before .before .before .m .given .1, suffix) at (c .before .before .before .before .before .before .schema-check .ensures))) .inside, length-drop (c .before .before .before .before .before .before .before .before .before .loop .at) (c .before .before .before .before .before .before .before .before .before .before .before .before .before .args .s .now), c .before .before .before .before .before .before .before .before .before .before .before .before .before .good, c .before .before .before .before .before .before .before .before .before .loop .inv .inside)
+variants-check-add-at t c = omega (arith, (held _ _ _ _ _ (rw (c .before .before .before .before .m .given .1, part-to-end) at (c .before .before .before .before .before .before .schema-check .ensures))) .inside, length-drop (c .before .before .before .before .before .before .before .before .before .loop .at) (c .before .before .before .before .before .before .before .before .before .before .before .before .before .args .s .now), c .before .before .before .before .before .before .before .before .before .before .before .before .before .good, c .before .before .before .before .before .before .before .before .before .loop .inv .inside)
 
 variants-check-loop-again : (t : ℕ) → variants-check-lts.Need-loop-again (variants-check-claims t) (variants-check-at t) variants-check.Post variants-check-Inv-loop variants-check-μ-loop
-variants-check-loop-again t c = variants-step _ _ _ _ _ (c .before .before .before .before .before .before .before .before .before .loop .inv) (c .before .before .before .before .before .before .before .before .loop-test .taken) _ _ _ _ (rw (c .before .before .before .before .m .given .1, suffix) at (c .before .before .before .before .before .before .schema-check .ensures)) (c .before .both .ensures) (c .both2 .ensures)
+variants-check-loop-again t c = variants-step _ _ _ _ _ (c .before .before .before .before .before .before .before .before .before .loop .inv) (c .before .before .before .before .before .before .before .before .loop-test .taken) _ _ _ _ (rw (c .before .before .before .before .m .given .1, part-to-end) at (c .before .before .before .before .before .before .schema-check .ensures)) (c .before .both .ensures) (c .both2 .ensures)
 
 variants-check-returns-3 : (t : ℕ) → variants-check-lts.Need-returns-3 (variants-check-claims t) (variants-check-at t) variants-check.Post variants-check-Inv-loop variants-check-μ-loop
 unfolding variantsSound variantsOf

@@ -9,13 +9,13 @@ use Rattle.scalar.specs.Conversion.{inInt, finiteDouble}
 use Rattle.frame.specs.Readers.{readMany, readList}
 use Rattle.frame.specs.ValueFrame.{itemsOf, entriesOf, readEntry, readValue}
 use Rattle.frame.specs.Sound.{defaultItems, defaultEntries}
-use Rattle.frame.proofs.Reading.{suffix}
 use Rattle.frame.proofs.Measuring.{spans-le}
 use Rattle.frame.proofs.Counting.{list-many, reads-list, Left, left-start, left-reads, left-end}
 use Rattle.frame.proofs.ValueNodes.{value-there}
 use Rattle.schema.proofs.Defaults.{other-kinds, long-there, double-there, long-says, double-says, string-says, array-reads, map-reads, array-says, map-says, itemsKinds, items-step, entriesKinds, key-reads, entry-reads, entries-step}
 use borrow.Fn.Kinds.{In}
 use borrow.Fn.PlainCycle.{Measures, is, falls, and}
+use borrow.Rule.Slice.PartAt.{part-to-end}
 use Rattle.schema.proofs.default.default_kinds.Reads as default-kinds
 use Rattle.schema.proofs.default.default_kinds.Kinds as default-kinds-kinds
 use Rattle.schema.proofs.default.+default_kinds+entries_kinds+items_kinds.Lts-default_kinds as default-kinds-lts
@@ -113,10 +113,10 @@ default-kinds-sub-items-kinds-2 : (t : ℕ) → default-kinds-lts.Need-sub-items
 default-kinds-sub-items-kinds-2 t c = omega (arith, value-there _ _ (c .before .before .before .before .before .before .before .pre .1) .0)
 
 default-kinds-items-kinds-requires : (t : ℕ) → default-kinds-lts.Need-items-kinds-requires (default-kinds-claims t) (default-kinds-at t) default-kinds.Post
-default-kinds-items-kinds-requires t c κs = (omega (arith, c .before .before .before .before .before .before .before .pre .0, value-there _ _ (c .before .before .before .before .before .before .before .pre .1) .0), rw suffix (array-reads _ _ (c .before .before .before .before .before .before .before .pre .1) (c .before .if4 .taken)))
+default-kinds-items-kinds-requires t c κs = (omega (arith, c .before .before .before .before .before .before .before .pre .0, value-there _ _ (c .before .before .before .before .before .before .before .pre .1) .0), rw part-to-end (array-reads _ _ (c .before .before .before .before .before .before .before .pre .1) (c .before .if4 .taken)))
 
 default-kinds-returns-4 : (t : ℕ) → default-kinds-lts.Need-returns-4 (default-kinds-claims t) (default-kinds-at t) default-kinds.Post
-default-kinds-returns-4 t c = array-says _ _ (c .before .before .before .before .before .before .before .before .pre .1) (c .before .before .if4 .taken) _ (rw suffix at (c .items-kinds .ensures))
+default-kinds-returns-4 t c = array-says _ _ (c .before .before .before .before .before .before .before .before .pre .1) (c .before .before .if4 .taken) _ (rw part-to-end at (c .items-kinds .ensures))
 
 default-kinds-sub-entries-kinds : (t : ℕ) → default-kinds-lts.Need-sub-entries-kinds (default-kinds-claims t) (default-kinds-at t) default-kinds.Post
 default-kinds-sub-entries-kinds t c = omega (arith, value-there _ _ (c .before .before .before .before .before .before .before .pre .1) .1)
@@ -128,10 +128,10 @@ default-kinds-sub-entries-kinds-2 : (t : ℕ) → default-kinds-lts.Need-sub-ent
 default-kinds-sub-entries-kinds-2 t c = omega (arith, value-there _ _ (c .before .before .before .before .before .before .before .before .pre .1) .0)
 
 default-kinds-entries-kinds-requires : (t : ℕ) → default-kinds-lts.Need-entries-kinds-requires (default-kinds-claims t) (default-kinds-at t) default-kinds.Post
-default-kinds-entries-kinds-requires t c κs = (omega (arith, c .before .before .before .before .before .before .before .before .pre .0, value-there _ _ (c .before .before .before .before .before .before .before .before .pre .1) .0), rw suffix (map-reads _ _ (c .before .before .before .before .before .before .before .before .pre .1) (c .before .if5 .taken)))
+default-kinds-entries-kinds-requires t c κs = (omega (arith, c .before .before .before .before .before .before .before .before .pre .0, value-there _ _ (c .before .before .before .before .before .before .before .before .pre .1) .0), rw part-to-end (map-reads _ _ (c .before .before .before .before .before .before .before .before .pre .1) (c .before .if5 .taken)))
 
 default-kinds-returns-5 : (t : ℕ) → default-kinds-lts.Need-returns-5 (default-kinds-claims t) (default-kinds-at t) default-kinds.Post
-default-kinds-returns-5 t c = map-says _ _ (c .before .before .before .before .before .before .before .before .before .pre .1) (c .before .before .if5 .taken) _ (rw suffix at (c .entries-kinds .ensures))
+default-kinds-returns-5 t c = map-says _ _ (c .before .before .before .before .before .before .before .before .before .pre .1) (c .before .before .if5 .taken) _ (rw part-to-end at (c .entries-kinds .ensures))
 
 default-kinds-returns-6 : (t : ℕ) → default-kinds-lts.Need-returns-6 (default-kinds-claims t) (default-kinds-at t) default-kinds.Post
 default-kinds-returns-6 t c = other-kinds _ _ (c .before .before .before .before .before .before .before .pre .1) (c .before .before .before .before .if1 .left) (c .before .before .before .if2 .left) (c .before .before .if3 .left) (c .before .if4 .left) (c .if5 .left)
@@ -158,37 +158,37 @@ entries-kinds-part-content-start : (t : ℕ) → entries-kinds-lts.Need-part-con
 entries-kinds-part-content-start t c = omega (arith, c .before .loop .inv .inside)
 
 entries-kinds-content-requires : (t : ℕ) → entries-kinds-lts.Need-content-requires (entries-kinds-claims t) (entries-kinds-at t) entries-kinds.Post entries-kinds-Inv-loop entries-kinds-μ-loop
-entries-kinds-content-requires t c κs = rw suffix (key-reads _ _ _ _ (c .before .before .loop .ok) (c .before .before .loop .inv) (c .before .loop-test .taken))
+entries-kinds-content-requires t c κs = rw part-to-end (key-reads _ _ _ _ (c .before .before .loop .ok) (c .before .before .loop .inv) (c .before .loop-test .taken))
 
 entries-kinds-add-n : (t : ℕ) → entries-kinds-lts.Need-add-n (entries-kinds-claims t) (entries-kinds-at t) entries-kinds.Post entries-kinds-Inv-loop entries-kinds-μ-loop
 entries-kinds-add-n t c = omega (arith, c .content .ensures .1 .1)
 
 entries-kinds-add-e : (t : ℕ) → entries-kinds-lts.Need-add-e (entries-kinds-claims t) (entries-kinds-at t) entries-kinds.Post entries-kinds-Inv-loop entries-kinds-μ-loop
-entries-kinds-add-e t c = omega (arith, simp length-drop at (rw suffix at (c .content .ensures .1 .0)), c .before .before .before .loop .inv .inside, c .before .before .before .before .before .before .good)
+entries-kinds-add-e t c = omega (arith, simp length-drop at (rw part-to-end at (c .content .ensures .1 .0)), c .before .before .before .loop .inv .inside, c .before .before .before .before .before .before .good)
 
 entries-kinds-sub-default-kinds : (t : ℕ) → entries-kinds-lts.Need-sub-default-kinds (entries-kinds-claims t) (entries-kinds-at t) entries-kinds.Post entries-kinds-Inv-loop entries-kinds-μ-loop
-entries-kinds-sub-default-kinds t c = omega (arith, simp length-drop at (rw suffix at (c .content .ensures .1 .0)), c .before .before .before .loop .inv .inside)
+entries-kinds-sub-default-kinds t c = omega (arith, simp length-drop at (rw part-to-end at (c .content .ensures .1 .0)), c .before .before .before .loop .inv .inside)
 
 entries-kinds-part-default-kinds-start : (t : ℕ) → entries-kinds-lts.Need-part-default-kinds-start (entries-kinds-claims t) (entries-kinds-at t) entries-kinds.Post entries-kinds-Inv-loop entries-kinds-μ-loop
-entries-kinds-part-default-kinds-start t c = omega (arith, simp length-drop at (rw suffix at (c .content .ensures .1 .0)), c .before .before .before .loop .inv .inside)
+entries-kinds-part-default-kinds-start t c = omega (arith, simp length-drop at (rw part-to-end at (c .content .ensures .1 .0)), c .before .before .before .loop .inv .inside)
 
 entries-kinds-default-kinds-requires : (t : ℕ) → entries-kinds-lts.Need-default-kinds-requires (entries-kinds-claims t) (entries-kinds-at t) entries-kinds.Post entries-kinds-Inv-loop entries-kinds-μ-loop
-entries-kinds-default-kinds-requires t c κs = (omega (arith, c .before .before .before .before .before .before .before .pre .0), rw suffix (entry-reads _ _ _ _ (c .before .before .before .before .loop .ok) (c .before .before .before .before .loop .inv) (c .before .before .before .loop-test .taken) _ (rw suffix at (c .before .content .ensures .0))))
+entries-kinds-default-kinds-requires t c κs = (omega (arith, c .before .before .before .before .before .before .before .pre .0), rw part-to-end (entry-reads _ _ _ _ (c .before .before .before .before .loop .ok) (c .before .before .before .before .loop .inv) (c .before .before .before .loop-test .taken) _ (rw part-to-end at (c .before .content .ensures .0))))
 
 entries-kinds-sub-value-len : (t : ℕ) → entries-kinds-lts.Need-sub-value-len (entries-kinds-claims t) (entries-kinds-at t) entries-kinds.Post entries-kinds-Inv-loop entries-kinds-μ-loop
-entries-kinds-sub-value-len t c = omega (arith, simp length-drop at (rw suffix at (c .before .before .before .content .ensures .1 .0)), c .before .before .before .before .before .before .loop .inv .inside)
+entries-kinds-sub-value-len t c = omega (arith, simp length-drop at (rw part-to-end at (c .before .before .before .content .ensures .1 .0)), c .before .before .before .before .before .before .loop .inv .inside)
 
 entries-kinds-part-value-len-start : (t : ℕ) → entries-kinds-lts.Need-part-value-len-start (entries-kinds-claims t) (entries-kinds-at t) entries-kinds.Post entries-kinds-Inv-loop entries-kinds-μ-loop
-entries-kinds-part-value-len-start t c = omega (arith, simp length-drop at (rw suffix at (c .before .before .before .content .ensures .1 .0)), c .before .before .before .before .before .before .loop .inv .inside)
+entries-kinds-part-value-len-start t c = omega (arith, simp length-drop at (rw part-to-end at (c .before .before .before .content .ensures .1 .0)), c .before .before .before .before .before .before .loop .inv .inside)
 
 entries-kinds-value-len-requires : (t : ℕ) → entries-kinds-lts.Need-value-len-requires (entries-kinds-claims t) (entries-kinds-at t) entries-kinds.Post entries-kinds-Inv-loop entries-kinds-μ-loop
-entries-kinds-value-len-requires t c κs = rw suffix (entry-reads _ _ _ _ (c .before .before .before .before .before .before .before .loop .ok) (c .before .before .before .before .before .before .before .loop .inv) (c .before .before .before .before .before .before .loop-test .taken) _ (rw suffix at (c .before .before .before .before .content .ensures .0)))
+entries-kinds-value-len-requires t c κs = rw part-to-end (entry-reads _ _ _ _ (c .before .before .before .before .before .before .before .loop .ok) (c .before .before .before .before .before .before .before .loop .inv) (c .before .before .before .before .before .before .loop-test .taken) _ (rw part-to-end at (c .before .before .before .before .content .ensures .0)))
 
 entries-kinds-add-at : (t : ℕ) → entries-kinds-lts.Need-add-at (entries-kinds-claims t) (entries-kinds-at t) entries-kinds.Post entries-kinds-Inv-loop entries-kinds-μ-loop
-entries-kinds-add-at t c = omega (arith, simp length-drop at (spans-le _ _ _ (rw suffix at (c .value-len .ensures))), simp length-drop at (rw suffix at (c .before .before .before .before .before .content .ensures .1 .0)), c .before .before .before .before .before .before .before .before .loop .inv .inside, c .before .before .before .before .before .before .before .before .before .before .before .good)
+entries-kinds-add-at t c = omega (arith, simp length-drop at (spans-le _ _ _ (rw part-to-end at (c .value-len .ensures))), simp length-drop at (rw part-to-end at (c .before .before .before .before .before .content .ensures .1 .0)), c .before .before .before .before .before .before .before .before .loop .inv .inside, c .before .before .before .before .before .before .before .before .before .before .before .good)
 
 entries-kinds-loop-again : (t : ℕ) → entries-kinds-lts.Need-loop-again (entries-kinds-claims t) (entries-kinds-at t) entries-kinds.Post entries-kinds-Inv-loop entries-kinds-μ-loop
-entries-kinds-loop-again t c = entries-step _ _ _ _ (c .before .before .before .before .before .before .before .before .loop .ok) (c .before .before .before .before .before .before .before .before .loop .inv) (c .before .before .before .before .before .before .before .loop-test .taken) _ (rw suffix at (c .before .before .before .before .before .content .ensures .0)) (rw suffix at (c .before .before .before .before .before .content .ensures .1 .0)) _ _ (rw suffix at (c .before .before .before .default-kinds .ensures)) (c .before .before .both .ensures) _ (rw suffix at (c .value-len .ensures))
+entries-kinds-loop-again t c = entries-step _ _ _ _ (c .before .before .before .before .before .before .before .before .loop .ok) (c .before .before .before .before .before .before .before .before .loop .inv) (c .before .before .before .before .before .before .before .loop-test .taken) _ (rw part-to-end at (c .before .before .before .before .before .content .ensures .0)) (rw part-to-end at (c .before .before .before .before .before .content .ensures .1 .0)) _ _ (rw part-to-end at (c .before .before .before .default-kinds .ensures)) (c .before .before .both .ensures) _ (rw part-to-end at (c .value-len .ensures))
 
 entries-kinds-returns : (t : ℕ) → entries-kinds-lts.Need-returns (entries-kinds-claims t) (entries-kinds-at t) entries-kinds.Post entries-kinds-Inv-loop entries-kinds-μ-loop
 unfolding defaultEntries entriesOf
@@ -216,7 +216,7 @@ items-kinds-part-default-kinds-start : (t : ℕ) → items-kinds-lts.Need-part-d
 items-kinds-part-default-kinds-start t c = omega (arith, c .before .loop .inv .inside)
 
 items-kinds-default-kinds-requires : (t : ℕ) → items-kinds-lts.Need-default-kinds-requires (items-kinds-claims t) (items-kinds-at t) items-kinds.Post items-kinds-Inv-loop items-kinds-μ-loop
-items-kinds-default-kinds-requires t c κs = (omega (arith, c .before .before .before .before .before .pre .0), rw suffix (left-reads _ _ _ _ _ _ _ (c .before .before .loop .inv) (c .before .loop-test .taken)))
+items-kinds-default-kinds-requires t c κs = (omega (arith, c .before .before .before .before .before .pre .0), rw part-to-end (left-reads _ _ _ _ _ _ _ (c .before .before .loop .inv) (c .before .loop-test .taken)))
 
 items-kinds-sub-value-len : (t : ℕ) → items-kinds-lts.Need-sub-value-len (items-kinds-claims t) (items-kinds-at t) items-kinds.Post items-kinds-Inv-loop items-kinds-μ-loop
 items-kinds-sub-value-len t c = omega (arith, c .before .before .before .before .loop .inv .inside)
@@ -225,13 +225,13 @@ items-kinds-part-value-len-start : (t : ℕ) → items-kinds-lts.Need-part-value
 items-kinds-part-value-len-start t c = omega (arith, c .before .before .before .before .loop .inv .inside)
 
 items-kinds-value-len-requires : (t : ℕ) → items-kinds-lts.Need-value-len-requires (items-kinds-claims t) (items-kinds-at t) items-kinds.Post items-kinds-Inv-loop items-kinds-μ-loop
-items-kinds-value-len-requires t c κs = rw suffix (left-reads _ _ _ _ _ _ _ (c .before .before .before .before .before .loop .inv) (c .before .before .before .before .loop-test .taken))
+items-kinds-value-len-requires t c κs = rw part-to-end (left-reads _ _ _ _ _ _ _ (c .before .before .before .before .before .loop .inv) (c .before .before .before .before .loop-test .taken))
 
 items-kinds-add-at : (t : ℕ) → items-kinds-lts.Need-add-at (items-kinds-claims t) (items-kinds-at t) items-kinds.Post items-kinds-Inv-loop items-kinds-μ-loop
-items-kinds-add-at t c = omega (arith, spans-le _ _ _ (rw suffix at (c .value-len .ensures)), length-drop (c .before .before .before .before .before .before .loop .at) (c .before .before .before .before .before .before .before .before .before .args .s .now), c .before .before .before .before .before .before .before .before .before .good, c .before .before .before .before .before .before .loop .inv .inside)
+items-kinds-add-at t c = omega (arith, spans-le _ _ _ (rw part-to-end at (c .value-len .ensures)), length-drop (c .before .before .before .before .before .before .loop .at) (c .before .before .before .before .before .before .before .before .before .args .s .now), c .before .before .before .before .before .before .before .before .before .good, c .before .before .before .before .before .before .loop .inv .inside)
 
 items-kinds-loop-again : (t : ℕ) → items-kinds-lts.Need-loop-again (items-kinds-claims t) (items-kinds-at t) items-kinds.Post items-kinds-Inv-loop items-kinds-μ-loop
-items-kinds-loop-again t c = items-step _ _ _ _ (c .before .before .before .before .before .before .loop .ok) (c .before .before .before .before .before .before .loop .inv) (c .before .before .before .before .before .loop-test .taken) _ _ (rw suffix at (c .before .before .before .default-kinds .ensures)) (c .before .before .both .ensures) _ (rw suffix at (c .value-len .ensures))
+items-kinds-loop-again t c = items-step _ _ _ _ (c .before .before .before .before .before .before .loop .ok) (c .before .before .before .before .before .before .loop .inv) (c .before .before .before .before .before .loop-test .taken) _ _ (rw part-to-end at (c .before .before .before .default-kinds .ensures)) (c .before .before .both .ensures) _ (rw part-to-end at (c .value-len .ensures))
 
 items-kinds-returns : (t : ℕ) → items-kinds-lts.Need-returns (items-kinds-claims t) (items-kinds-at t) items-kinds.Post items-kinds-Inv-loop items-kinds-μ-loop
 unfolding defaultItems itemsOf

@@ -1,12 +1,13 @@
 -- `schema::default::default_check` meets its contract. Assumes nothing.
 use borrow.Author.Needs.{needs}
+use borrow.Rule.Slice.PartAt.{part-to-end}
 use native.Mathlib.Omega.{arith}
 use mathlib.Core.Path.{refl}
 use mathlib.Core.Option.{none}
 use mathlib.Core.Bool.{true}
 use lib.ListN.{length-drop}
 use Rattle.frame.specs.Sound.{defaultAllowed}
-use Rattle.frame.proofs.Reading.{suffix, option-empty, option-zero, option-one-none, option-other}
+use Rattle.frame.proofs.Reading.{option-empty, option-zero, option-one-none, option-other}
 use Rattle.frame.proofs.Measuring.{held, checks-some, checks-none, checks-broken, checks-reads}
 use Rattle.schema.proofs.Defaults.{default-checks}
 use Rattle.schema.proofs.default.default_check.Statement.{statement}
@@ -41,10 +42,10 @@ enum-told : tie.Need-enum-told
 enum-told c = search needs
 
 returns-3 : tie.Need-returns-3
-returns-3 c = checks-none _ _ _ (option-one-none _ _ (omega (arith, c .before .before .before .before .before .before .before .if1 .left)) (c .before .before .before .before .if3 .taken) (checks-broken _ _ _ (rw (c .enum-told .given .1, suffix) at (c .before .before .value-check .ensures))))
+returns-3 c = checks-none _ _ _ (option-one-none _ _ (omega (arith, c .before .before .before .before .before .before .before .if1 .left)) (c .before .before .before .before .if3 .taken) (checks-broken _ _ _ (rw (c .enum-told .given .1, part-to-end) at (c .before .before .value-check .ensures))))
 
 add-t11 : tie.Need-add-t11
-add-t11 c = omega (arith, (held _ _ _ _ _ (rw (c .before .m .given .1, suffix) at (c .before .before .before .value-check .ensures))) .inside, length-drop 1 (c .before .before .before .before .before .before .before .before .before .before .args .s .now), c .before .before .before .before .before .before .before .before .before .before .good)
+add-t11 c = omega (arith, (held _ _ _ _ _ (rw (c .before .m .given .1, part-to-end) at (c .before .before .before .value-check .ensures))) .inside, length-drop 1 (c .before .before .before .before .before .before .before .before .before .before .args .s .now), c .before .before .before .before .before .before .before .before .before .before .good)
 
 sub-default-kinds : tie.Need-sub-default-kinds
 sub-default-kinds c = search needs
@@ -56,13 +57,13 @@ part-default-kinds-end : tie.Need-part-default-kinds-end
 part-default-kinds-end c = search needs
 
 default-kinds-requires : tie.Need-default-kinds-requires
-default-kinds-requires c κs = rw suffix (checks-reads _ _ _ _ _ (rw (c .before .before .m .given .1, suffix) at (c .before .before .before .before .value-check .ensures)))
+default-kinds-requires c κs = rw part-to-end (checks-reads _ _ _ _ _ (rw (c .before .before .m .given .1, part-to-end) at (c .before .before .before .before .value-check .ensures)))
 
 both-requires : tie.Need-both-requires
 both-requires c κs = search needs
 
 returns-4 : tie.Need-returns-4
-returns-4 c = default-checks _ (omega (arith, c .before .before .before .before .before .before .before .before .before .before .before .if1 .left)) (c .before .before .before .before .before .before .before .before .if3 .taken) _ _ (rw (c .before .before .before .before .m .given .1, suffix) at (c .before .before .before .before .before .before .value-check .ensures)) _ (rw suffix at (c .before .default-kinds .ensures)) _ (c .both .ensures)
+returns-4 c = default-checks _ (omega (arith, c .before .before .before .before .before .before .before .before .before .before .before .if1 .left)) (c .before .before .before .before .before .before .before .before .if3 .taken) _ _ (rw (c .before .before .before .before .m .given .1, part-to-end) at (c .before .before .before .before .before .before .value-check .ensures)) _ (rw part-to-end at (c .before .default-kinds .ensures)) _ (c .both .ensures)
 
 returns-5 : tie.Need-returns-5
 returns-5 c = checks-none _ _ _ (option-other _ _ (omega arith) (c .before .if2 .left) (c .if3 .left))

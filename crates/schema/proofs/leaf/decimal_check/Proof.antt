@@ -1,8 +1,8 @@
 -- `schema::leaf::decimal_check` meets its contract. Assumes nothing.
 use borrow.Author.Needs.{needs}
+use borrow.Rule.Slice.PartAt.{part-to-end}
 use native.Mathlib.Omega.{arith}
 use lib.ListN.{length-drop}
-use Rattle.frame.proofs.Reading.{suffix}
 use Rattle.frame.proofs.Measuring.{long, measured-broken, checks-none}
 use Rattle.schema.proofs.Leaves.{decimal-none, decimal-checks, decimal-later}
 use Rattle.schema.proofs.leaf.decimal_check.Statement.{statement}
@@ -30,13 +30,13 @@ enum-told : tie.Need-enum-told
 enum-told c = search needs
 
 returns-2 : tie.Need-returns-2
-returns-2 c = λ node. checks-none _ _ _ (decimal-later node _ (c .before .before .before .before .if1 .left) (measured-broken _ _ (rw (c .enum-told .given .1, suffix) at (c .before .before .option-size-len .ensures))))
+returns-2 c = λ node. checks-none _ _ _ (decimal-later node _ (c .before .before .before .before .if1 .left) (measured-broken _ _ (rw (c .enum-told .given .1, part-to-end) at (c .before .before .option-size-len .ensures))))
 
 add-t3 : tie.Need-add-t3
-add-t3 c = let h = long _ _ _ (rw (c .before .m .given .1, suffix) at (c .before .before .before .option-size-len .ensures)) in omega (arith, h .inside, length-drop 8 (c .before .before .before .before .before .before .before .args .s .now), c .before .before .before .before .before .before .before .good)
+add-t3 c = let h = long _ _ _ (rw (c .before .m .given .1, part-to-end) at (c .before .before .before .option-size-len .ensures)) in omega (arith, h .inside, length-drop 8 (c .before .before .before .before .before .before .before .args .s .now), c .before .before .before .before .before .before .before .good)
 
 returns-3 : tie.Need-returns-3
-returns-3 c = λ node. decimal-checks node _ (c .before .before .before .before .before .if1 .left) _ (rw (c .before .m .given .1, suffix) at (c .before .before .before .option-size-len .ensures))
+returns-3 c = λ node. decimal-checks node _ (c .before .before .before .before .before .if1 .left) _ (rw (c .before .m .given .1, part-to-end) at (c .before .before .before .option-size-len .ensures))
 
 pub decimal-check-spec : {M : Type 1} → statement M
 decimal-check-spec =

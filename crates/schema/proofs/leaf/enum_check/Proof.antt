@@ -1,8 +1,8 @@
 -- `schema::leaf::enum_check` meets its contract. Assumes nothing.
 use borrow.Author.Needs.{needs}
+use borrow.Rule.Slice.PartAt.{part-to-end}
 use native.Mathlib.Omega.{arith}
 use lib.ListN.{length-drop}
-use Rattle.frame.proofs.Reading.{suffix}
 use Rattle.frame.proofs.Measuring.{long, measured-broken, checks-none}
 use Rattle.schema.proofs.Leaves.{enum-checks, enum-broken, enum-none}
 use Rattle.schema.proofs.leaf.enum_check.Statement.{statement}
@@ -39,15 +39,15 @@ enum-told-2 : tie.Need-enum-told-2
 enum-told-2 c = search needs
 
 returns-2 : tie.Need-returns-2
-returns-2 c = λ node. checks-none _ _ _ (enum-broken node _ _ (rw (c .before .before .before .before .before .a .given .1) at (c .before .before .before .before .before .before .before .texts-len .ensures)) (rw (c .enum-told2 .given .1, suffix) at (c .before .before .option-text-len .ensures)))
+returns-2 c = λ node. checks-none _ _ _ (enum-broken node _ _ (rw (c .before .before .before .before .before .a .given .1) at (c .before .before .before .before .before .before .before .texts-len .ensures)) (rw (c .enum-told2 .given .1, part-to-end) at (c .before .before .option-text-len .ensures)))
 
 add-t7 : tie.Need-add-t7
 add-t7 c = let h = long _ _ _ (rw (c .before .before .before .before .before .before .a .given .1) at (c .before .before .before .before .before .before .before .before .texts-len .ensures)) in
-    let g = long _ _ _ (rw (c .before .b .given .1, suffix) at (c .before .before .before .option-text-len .ensures)) in
+    let g = long _ _ _ (rw (c .before .b .given .1, part-to-end) at (c .before .before .before .option-text-len .ensures)) in
     omega (arith, h .inside, g .inside, length-drop (c .before .before .before .before .before .before .a .given .0 .0) (c .before .before .before .before .before .before .before .before .before .before .args .s .now), c .before .before .before .before .before .before .before .before .before .before .good)
 
 returns-3 : tie.Need-returns-3
-returns-3 c = λ node. enum-checks node _ _ _ (rw (c .before .before .before .before .before .before .a .given .1) at (c .before .before .before .before .before .before .before .before .texts-len .ensures)) (rw (c .before .b .given .1, suffix) at (c .before .before .before .option-text-len .ensures))
+returns-3 c = λ node. enum-checks node _ _ _ (rw (c .before .before .before .before .before .before .a .given .1) at (c .before .before .before .before .before .before .before .before .texts-len .ensures)) (rw (c .before .b .given .1, part-to-end) at (c .before .before .before .option-text-len .ensures))
 
 pub enum-check-spec : {M : Type 1} → statement M
 enum-check-spec =

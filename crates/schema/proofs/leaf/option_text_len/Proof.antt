@@ -1,8 +1,9 @@
 -- `schema::leaf::option_text_len` meets its contract. Assumes nothing.
 use borrow.Author.Needs.{needs}
+use borrow.Rule.Slice.PartAt.{part-to-end}
 use native.Mathlib.Omega.{arith}
 use lib.ListN.{length-drop}
-use Rattle.frame.proofs.Reading.{suffix, option-empty, option-zero, option-one-none, option-other}
+use Rattle.frame.proofs.Reading.{option-empty, option-zero, option-one-none, option-other}
 use Rattle.frame.proofs.Measuring.{long, measured-some, measured-none, measured-broken, option-measured}
 use Rattle.schema.proofs.leaf.option_text_len.Statement.{statement}
 use Rattle.schema.proofs.leaf.option_text_len.Tie as tie
@@ -35,13 +36,13 @@ enum-told : tie.Need-enum-told
 enum-told c = search needs
 
 returns-3 : tie.Need-returns-3
-returns-3 c = measured-none _ _ (option-one-none _ _ (omega arith) (c .before .before .before .before .if3 .taken) (measured-broken _ _ (rw (c .enum-told .given .1, suffix) at (c .before .before .text-len .ensures))))
+returns-3 c = measured-none _ _ (option-one-none _ _ (omega arith) (c .before .before .before .before .if3 .taken) (measured-broken _ _ (rw (c .enum-told .given .1, part-to-end) at (c .before .before .text-len .ensures))))
 
 add-t10 : tie.Need-add-t10
-add-t10 c = let h = long _ _ _ (rw (c .before .m .given .1, suffix) at (c .before .before .before .text-len .ensures)) in omega (arith, h .inside, length-drop 1 (c .before .before .before .before .before .before .before .before .before .before .args .s .now), c .before .before .before .before .before .before .before .before .before .before .good)
+add-t10 c = let h = long _ _ _ (rw (c .before .m .given .1, part-to-end) at (c .before .before .before .text-len .ensures)) in omega (arith, h .inside, length-drop 1 (c .before .before .before .before .before .before .before .before .before .before .args .s .now), c .before .before .before .before .before .before .before .before .before .before .good)
 
 returns-4 : tie.Need-returns-4
-returns-4 c = option-measured _ _ (omega (arith, c .before .before .before .before .before .before .before .before .if1 .left)) (c .before .before .before .before .before .if3 .taken) _ (rw (c .before .m .given .1, suffix) at (c .before .before .before .text-len .ensures))
+returns-4 c = option-measured _ _ (omega (arith, c .before .before .before .before .before .before .before .before .if1 .left)) (c .before .before .before .before .before .if3 .taken) _ (rw (c .before .m .given .1, part-to-end) at (c .before .before .before .text-len .ensures))
 
 returns-5 : tie.Need-returns-5
 returns-5 c = measured-none _ _ (option-other _ _ (omega arith) (c .before .if2 .left) (c .if3 .left))

@@ -1,10 +1,10 @@
 -- `schema::leaf::texts_len` meets its contract. Assumes nothing.
 use borrow.Author.Needs.{needs}
+use borrow.Rule.Slice.PartAt.{part-to-end}
 use native.Mathlib.Omega.{arith}
 use mathlib.Core.Bool.{true}
 use lib.ListN.{length-drop}
 use Rattle.text.specs.Read.{readText}
-use Rattle.frame.proofs.Reading.{suffix}
 use Rattle.frame.proofs.Measuring.{long, measured-none, measured-broken, measured-spans, spans-measured}
 use Rattle.frame.proofs.Counting.{list-short, going-list, going-none, Walking, walking-step, walking-end}
 use Rattle.schema.proofs.leaf.texts_len.Statement.{statement}
@@ -47,10 +47,10 @@ enum-told : tie.Need-enum-told Inv-loop μ-loop
 enum-told c = search needs
 
 returns-2 : tie.Need-returns-2 Inv-loop μ-loop
-returns-2 c = measured-none _ _ (going-none _ _ _ _ _ _ _ _ (c .before .before .before .before .before .loop .inv) (c .before .before .before .before .loop-test .taken) (measured-broken _ _ (rw (c .enum-told .given .1, suffix) at (c .before .before .text-len .ensures))))
+returns-2 c = measured-none _ _ (going-none _ _ _ _ _ _ _ _ (c .before .before .before .before .before .loop .inv) (c .before .before .before .before .loop-test .taken) (measured-broken _ _ (rw (c .enum-told .given .1, part-to-end) at (c .before .before .text-len .ensures))))
 
 add-at : tie.Need-add-at Inv-loop μ-loop
-add-at c = let h = long _ _ _ (rw (c .before .m .given .1, suffix) at (c .before .before .before .text-len .ensures)) in omega (arith, h .inside, length-drop (c .before .before .before .before .before .before .loop .at) (c .before .before .before .before .before .before .before .before .before .before .args .s .now), c .before .before .before .before .before .before .before .before .before .before .good, c .before .before .before .before .before .before .loop .inv .inside)
+add-at c = let h = long _ _ _ (rw (c .before .m .given .1, part-to-end) at (c .before .before .before .text-len .ensures)) in omega (arith, h .inside, length-drop (c .before .before .before .before .before .before .loop .at) (c .before .before .before .before .before .before .before .before .before .before .args .s .now), c .before .before .before .before .before .before .before .before .before .before .good, c .before .before .before .before .before .before .loop .inv .inside)
 
 sub-left : tie.Need-sub-left Inv-loop μ-loop
 sub-left c = search needs
@@ -59,7 +59,7 @@ loop-less : tie.Need-loop-less Inv-loop μ-loop
 loop-less c = search needs
 
 loop-again : tie.Need-loop-again Inv-loop μ-loop
-loop-again c = walking-step _ _ _ _ (c .before .before .before .before .before .before .loop .inv) _ (c .before .before .before .before .before .loop-test .taken) (measured-spans _ _ _ (rw (c .before .m .given .1, suffix) at (c .before .before .before .text-len .ensures)))
+loop-again c = walking-step _ _ _ _ (c .before .before .before .before .before .before .loop .inv) _ (c .before .before .before .before .before .loop-test .taken) (measured-spans _ _ _ (rw (c .before .m .given .1, part-to-end) at (c .before .before .before .text-len .ensures)))
 
 returns-3 : tie.Need-returns-3 Inv-loop μ-loop
 returns-3 c = spans-measured _ _ _ (walking-end _ _ _ _ (c .before .loop .inv) (c .loop-test .left))

@@ -5,13 +5,13 @@ use native.Mathlib.Omega.{arith}
 use lib.ListN.{length, length-set, drop, length-drop}
 use Rattle.frame.specs.Readers.{readMany}
 use Rattle.frame.specs.SchemaFrame.{readField, readSchema}
-use Rattle.frame.proofs.Reading.{suffix}
 use Rattle.frame.proofs.Measuring.{spans-le}
 use Rattle.frame.proofs.Counting.{list-many, reads-list, left-reads}
 use Rattle.schema.specs.Slot.{lowOf, highOf, lowSlot, highSlot, markOf, nameMark}
 use Rattle.schema.proofs.Checking.{name-reads}
 use Rattle.schema.proofs.Looking.{low-inside, high-inside, Looking, looking-start, looking-reads, looking-low, looking-high, looking-hit, looking-step, looking-end}
 use borrow.Author.Needs.{needs}
+use borrow.Rule.Slice.PartAt.{part-to-end}
 use Rattle.schema.proofs.names.differ_by.Statement.{statement}
 use Rattle.schema.proofs.names.differ_by.Tie as tie
 
@@ -40,7 +40,7 @@ part-content-start : tie.Need-part-content-start Inv-loop μ-loop
 part-content-start c = omega (arith, c .before .loop .inv .2 .rest .inside)
 
 content-requires : tie.Need-content-requires Inv-loop μ-loop
-content-requires c κs = rw suffix (name-reads (readSchema (c .before .before .before .before .before .before .args .depth)) _ (left-reads _ _ _ _ _ _ _ (c .before .before .loop .inv .2 .rest) (c .before .loop-test .taken)))
+content-requires c κs = rw part-to-end (name-reads (readSchema (c .before .before .before .before .before .before .args .depth)) _ (left-reads _ _ _ _ _ _ _ (c .before .before .loop .inv .2 .rest) (c .before .loop-test .taken)))
 
 slice-read-may-be : tie.Need-slice-read-may-be Inv-loop μ-loop
 slice-read-may-be c = omega (arith, c .before .before .before .low-slot .ensures, low-inside (c .before .before .before .before .before .before .before .before .before .before .before .before .args .few) (c .before .before .before .before .hash .result), c .before .before .before .before .before .before .before .before .before .before .before .before .pre .1, c .before .before .before .before .before .before .before .before .loop .inv .0)
@@ -56,13 +56,13 @@ part-repeats-start c = reads-list _ _ (c .before .before .before .before .before
 
 repeats-requires : tie.Need-repeats-requires Inv-loop μ-loop
 unfolding lowSlot highSlot nameMark
-repeats-requires c κs = rw suffix (looking-reads (readSchema (c .before .before .before .before .before .before .before .before .before .before .before .before .before .before .before .before .args .depth)) (lowSlot (c .before .before .before .before .before .before .before .before .before .before .before .before .before .before .before .before .args .few)) (highSlot (c .before .before .before .before .before .before .before .before .before .before .before .before .before .before .before .before .args .few)) (c .before .before .before .before .before .before .before .before .before .before .before .before .before .before .before .before .args .s .now) _ _ _ _ (c .before .before .before .before .before .before .before .before .before .before .before .before .loop .inv .2), (λ fs u e z. looking-low (readSchema (c .before .before .before .before .before .before .before .before .before .before .before .before .before .before .before .before .args .depth)) (lowSlot (c .before .before .before .before .before .before .before .before .before .before .before .before .before .before .before .before .args .few)) (highSlot (c .before .before .before .before .before .before .before .before .before .before .before .before .before .before .before .before .args .few)) (c .before .before .before .before .before .before .before .before .before .before .before .before .before .before .before .before .args .s .now) _ _ _ _ (c .before .before .before .before .before .before .before .before .before .before .before .before .loop .inv .2) (c .before .before .before .before .before .before .before .before .before .content .result .now) _ _ (c .before .before .before .before .before .before .before .low-slot .ensures ∙ ap (lowOf (c .before .before .before .before .before .before .before .before .before .before .before .before .before .before .before .before .args .few)) (c .before .before .before .before .before .before .before .before .hash .ensures)) (c .before .before .before .before .before .mark .ensures ∙ ap markOf (c .before .before .before .before .before .before .before .before .hash .ensures)) (sym (c .before .before .before .may-be .ensures) ∙ z) fs u e), (λ fs u e z. looking-high (readSchema (c .before .before .before .before .before .before .before .before .before .before .before .before .before .before .before .before .args .depth)) (lowSlot (c .before .before .before .before .before .before .before .before .before .before .before .before .before .before .before .before .args .few)) (highSlot (c .before .before .before .before .before .before .before .before .before .before .before .before .before .before .before .before .args .few)) (c .before .before .before .before .before .before .before .before .before .before .before .before .before .before .before .before .args .s .now) _ _ _ _ (c .before .before .before .before .before .before .before .before .before .before .before .before .loop .inv .2) (c .before .before .before .before .before .before .before .before .before .content .result .now) _ _ (c .before .before .before .before .before .before .high-slot .ensures ∙ ap (highOf (c .before .before .before .before .before .before .before .before .before .before .before .before .before .before .before .before .args .few)) (c .before .before .before .before .before .before .before .before .hash .ensures)) (c .before .before .before .before .before .mark .ensures ∙ ap markOf (c .before .before .before .before .before .before .before .before .hash .ensures)) (sym (c .before .may-be2 .ensures) ∙ z) fs u e))
+repeats-requires c κs = rw part-to-end (looking-reads (readSchema (c .before .before .before .before .before .before .before .before .before .before .before .before .before .before .before .before .args .depth)) (lowSlot (c .before .before .before .before .before .before .before .before .before .before .before .before .before .before .before .before .args .few)) (highSlot (c .before .before .before .before .before .before .before .before .before .before .before .before .before .before .before .before .args .few)) (c .before .before .before .before .before .before .before .before .before .before .before .before .before .before .before .before .args .s .now) _ _ _ _ (c .before .before .before .before .before .before .before .before .before .before .before .before .loop .inv .2), (λ fs u e z. looking-low (readSchema (c .before .before .before .before .before .before .before .before .before .before .before .before .before .before .before .before .args .depth)) (lowSlot (c .before .before .before .before .before .before .before .before .before .before .before .before .before .before .before .before .args .few)) (highSlot (c .before .before .before .before .before .before .before .before .before .before .before .before .before .before .before .before .args .few)) (c .before .before .before .before .before .before .before .before .before .before .before .before .before .before .before .before .args .s .now) _ _ _ _ (c .before .before .before .before .before .before .before .before .before .before .before .before .loop .inv .2) (c .before .before .before .before .before .before .before .before .before .content .result .now) _ _ (c .before .before .before .before .before .before .before .low-slot .ensures ∙ ap (lowOf (c .before .before .before .before .before .before .before .before .before .before .before .before .before .before .before .before .args .few)) (c .before .before .before .before .before .before .before .before .hash .ensures)) (c .before .before .before .before .before .mark .ensures ∙ ap markOf (c .before .before .before .before .before .before .before .before .hash .ensures)) (sym (c .before .before .before .may-be .ensures) ∙ z) fs u e), (λ fs u e z. looking-high (readSchema (c .before .before .before .before .before .before .before .before .before .before .before .before .before .before .before .before .args .depth)) (lowSlot (c .before .before .before .before .before .before .before .before .before .before .before .before .before .before .before .before .args .few)) (highSlot (c .before .before .before .before .before .before .before .before .before .before .before .before .before .before .before .before .args .few)) (c .before .before .before .before .before .before .before .before .before .before .before .before .before .before .before .before .args .s .now) _ _ _ _ (c .before .before .before .before .before .before .before .before .before .before .before .before .loop .inv .2) (c .before .before .before .before .before .before .before .before .before .content .result .now) _ _ (c .before .before .before .before .before .before .high-slot .ensures ∙ ap (highOf (c .before .before .before .before .before .before .before .before .before .before .before .before .before .before .before .before .args .few)) (c .before .before .before .before .before .before .before .before .hash .ensures)) (c .before .before .before .before .before .mark .ensures ∙ ap markOf (c .before .before .before .before .before .before .before .before .hash .ensures)) (sym (c .before .may-be2 .ensures) ∙ z) fs u e))
 
 same-length : tie.Need-same-length Inv-loop μ-loop
 same-length c = c .before .before .before .before .before .before .before .before .before .before .before .before .before .before .loop .inv .0
 
 returns : tie.Need-returns Inv-loop μ-loop
-returns c = looking-hit (readSchema (c .before .before .before .before .before .before .before .before .before .before .before .before .before .before .before .before .before .before .args .depth)) (lowSlot (c .before .before .before .before .before .before .before .before .before .before .before .before .before .before .before .before .before .before .args .few)) (highSlot (c .before .before .before .before .before .before .before .before .before .before .before .before .before .before .before .before .before .before .args .few)) (c .before .before .before .before .before .before .before .before .before .before .before .before .before .before .before .before .before .before .args .s .now) _ _ _ _ (c .before .before .before .before .before .before .before .before .before .before .before .before .before .before .loop .inv .2) (c .before .before .before .before .before .before .before .before .before .before .before .before .before .loop-test .taken) (c .before .before .before .before .before .before .before .before .before .before .before .content .result .now) _ (rw suffix at (c .before .before .before .before .before .before .before .before .before .before .before .content .ensures .0)) _ (rw suffix at (c .before .repeats .ensures)) (c .if1 .taken)
+returns c = looking-hit (readSchema (c .before .before .before .before .before .before .before .before .before .before .before .before .before .before .before .before .before .before .args .depth)) (lowSlot (c .before .before .before .before .before .before .before .before .before .before .before .before .before .before .before .before .before .before .args .few)) (highSlot (c .before .before .before .before .before .before .before .before .before .before .before .before .before .before .before .before .before .before .args .few)) (c .before .before .before .before .before .before .before .before .before .before .before .before .before .before .before .before .before .before .args .s .now) _ _ _ _ (c .before .before .before .before .before .before .before .before .before .before .before .before .before .before .loop .inv .2) (c .before .before .before .before .before .before .before .before .before .before .before .before .before .loop-test .taken) (c .before .before .before .before .before .before .before .before .before .before .before .content .result .now) _ (rw part-to-end at (c .before .before .before .before .before .before .before .before .before .before .before .content .ensures .0)) _ (rw part-to-end at (c .before .repeats .ensures)) (c .if1 .taken)
 
 slice-read-take : tie.Need-slice-read-take Inv-loop μ-loop
 slice-read-take c = omega (arith, c .before .before .before .before .before .before .before .before .before .before .low-slot .ensures, low-inside (c .before .before .before .before .before .before .before .before .before .before .before .before .before .before .before .before .before .before .before .args .few) (c .before .before .before .before .before .before .before .before .before .before .before .hash .result), c .before .before .before .before .before .before .before .before .before .before .before .before .before .before .before .before .before .before .before .pre .1, c .before .before .before .before .before .before .before .before .before .before .before .before .before .before .before .loop .inv .0)
@@ -83,10 +83,10 @@ part-field-len-start : tie.Need-part-field-len-start Inv-loop μ-loop
 part-field-len-start c = omega (arith, c .before .before .before .before .before .before .before .before .before .before .before .before .before .before .before .before .before .before .loop .inv .2 .rest .inside)
 
 field-len-requires : tie.Need-field-len-requires Inv-loop μ-loop
-field-len-requires c κs = rw suffix (left-reads _ _ _ _ _ _ _ (c .before .before .before .before .before .before .before .before .before .before .before .before .before .before .before .before .before .before .before .loop .inv .2 .rest) (c .before .before .before .before .before .before .before .before .before .before .before .before .before .before .before .before .before .before .loop-test .taken))
+field-len-requires c κs = rw part-to-end (left-reads _ _ _ _ _ _ _ (c .before .before .before .before .before .before .before .before .before .before .before .before .before .before .before .before .before .before .before .loop .inv .2 .rest) (c .before .before .before .before .before .before .before .before .before .before .before .before .before .before .before .before .before .before .loop-test .taken))
 
 add-at : tie.Need-add-at Inv-loop μ-loop
-add-at c = omega (arith, spans-le _ _ _ (rw suffix at (c .field-len .ensures)), length-drop (c .before .before .before .before .before .before .before .before .before .before .before .before .before .before .before .before .before .before .before .before .loop .at) (c .before .before .before .before .before .before .before .before .before .before .before .before .before .before .before .before .before .before .before .before .before .before .before .before .args .s .now), c .before .before .before .before .before .before .before .before .before .before .before .before .before .before .before .before .before .before .before .before .before .before .before .before .good, c .before .before .before .before .before .before .before .before .before .before .before .before .before .before .before .before .before .before .before .before .loop .inv .2 .rest .inside)
+add-at c = omega (arith, spans-le _ _ _ (rw part-to-end at (c .field-len .ensures)), length-drop (c .before .before .before .before .before .before .before .before .before .before .before .before .before .before .before .before .before .before .before .before .loop .at) (c .before .before .before .before .before .before .before .before .before .before .before .before .before .before .before .before .before .before .before .before .before .before .before .before .args .s .now), c .before .before .before .before .before .before .before .before .before .before .before .before .before .before .before .before .before .before .before .before .before .before .before .before .good, c .before .before .before .before .before .before .before .before .before .before .before .before .before .before .before .before .before .before .before .before .loop .inv .2 .rest .inside)
 
 add-done : tie.Need-add-done Inv-loop μ-loop
 add-done c = omega (arith, c .before .before .before .before .before .before .before .before .before .before .before .before .before .before .before .before .before .before .before .before .loop .inv .1)
@@ -98,7 +98,7 @@ loop-again c =
     let k = c .before .before .before .before .before .before .before .before .before .before .before .before .before .before .high-slot .result in
     let low : j < length (c .before .before .before .before .before .before .before .before .before .before .before .before .before .before .before .before .before .before .before .before .loop .table) = omega (arith, c .before .before .before .before .before .before .before .before .before .before .before .before .before .before .before .low-slot .ensures, low-inside (c .before .before .before .before .before .before .before .before .before .before .before .before .before .before .before .before .before .before .before .before .before .before .before .before .args .few) (c .before .before .before .before .before .before .before .before .before .before .before .before .before .before .before .before .hash .result), c .before .before .before .before .before .before .before .before .before .before .before .before .before .before .before .before .before .before .before .before .before .before .before .before .pre .1, c .before .before .before .before .before .before .before .before .before .before .before .before .before .before .before .before .before .before .before .before .loop .inv .0) in
     let high : k < length (c .before .before .before .before .before .before .before .before .before .before .before .before .before .before .before .before .before .before .before .before .loop .table) = omega (arith, c .before .before .before .before .before .before .before .before .before .before .before .before .before .before .high-slot .ensures, high-inside (c .before .before .before .before .before .before .before .before .before .before .before .before .before .before .before .before .before .before .before .before .before .before .before .before .args .few) (c .before .before .before .before .before .before .before .before .before .before .before .before .before .before .before .before .hash .result), c .before .before .before .before .before .before .before .before .before .before .before .before .before .before .before .before .before .before .before .before .before .before .before .before .pre .1, c .before .before .before .before .before .before .before .before .before .before .before .before .before .before .before .before .before .before .before .before .loop .inv .0) in
-    (simp length-set (c .before .before .before .before .before .before .before .before .before .before .before .before .before .before .before .before .before .before .before .before .loop .inv .0), omega (arith, c .before .before .before .before .before .before .before .before .before .before .before .before .before .before .before .before .before .before .before .before .loop .inv .1, c .before .before .before .before .before .before .before .before .before .before .before .before .before .before .before .before .before .before .before .loop-test .taken), looking-step (readSchema (c .before .before .before .before .before .before .before .before .before .before .before .before .before .before .before .before .before .before .before .before .before .before .before .before .args .depth)) (lowSlot (c .before .before .before .before .before .before .before .before .before .before .before .before .before .before .before .before .before .before .before .before .before .before .before .before .args .few)) (highSlot (c .before .before .before .before .before .before .before .before .before .before .before .before .before .before .before .before .before .before .before .before .before .before .before .before .args .few)) (c .before .before .before .before .before .before .before .before .before .before .before .before .before .before .before .before .before .before .before .before .before .before .before .before .args .s .now) _ _ _ _ (c .before .before .before .before .before .before .before .before .before .before .before .before .before .before .before .before .before .before .before .before .loop .inv .2) (c .before .before .before .before .before .before .before .before .before .before .before .before .before .before .before .before .before .before .before .loop-test .taken) (c .before .before .before .before .before .before .before .before .before .before .before .before .before .before .before .before .before .content .result .now) _ (rw suffix at (c .before .before .before .before .before .before .before .before .before .before .before .before .before .before .before .before .before .content .ensures .0)) _ (rw suffix at (c .before .before .before .before .before .before .before .repeats .ensures)) (c .before .before .before .before .before .before .if1 .left) j k _ _ _ (c .before .before .before .before .before .before .before .before .before .before .before .before .before .before .before .low-slot .ensures ∙ ap (lowOf (c .before .before .before .before .before .before .before .before .before .before .before .before .before .before .before .before .before .before .before .before .before .before .before .before .args .few)) (c .before .before .before .before .before .before .before .before .before .before .before .before .before .before .before .before .hash .ensures)) (c .before .before .before .before .before .before .before .before .before .before .before .before .before .before .high-slot .ensures ∙ ap (highOf (c .before .before .before .before .before .before .before .before .before .before .before .before .before .before .before .before .before .before .before .before .before .before .before .before .args .few)) (c .before .before .before .before .before .before .before .before .before .before .before .before .before .before .before .before .hash .ensures)) (c .before .before .before .before .before .before .before .before .before .before .before .before .before .mark .ensures ∙ ap markOf (c .before .before .before .before .before .before .before .before .before .before .before .before .before .before .before .before .hash .ensures)) low high (c .before .before .before .before .take .ensures) (c .before .before .take2 .ensures) _ (rw suffix at (c .field-len .ensures)))
+    (simp length-set (c .before .before .before .before .before .before .before .before .before .before .before .before .before .before .before .before .before .before .before .before .loop .inv .0), omega (arith, c .before .before .before .before .before .before .before .before .before .before .before .before .before .before .before .before .before .before .before .before .loop .inv .1, c .before .before .before .before .before .before .before .before .before .before .before .before .before .before .before .before .before .before .before .loop-test .taken), looking-step (readSchema (c .before .before .before .before .before .before .before .before .before .before .before .before .before .before .before .before .before .before .before .before .before .before .before .before .args .depth)) (lowSlot (c .before .before .before .before .before .before .before .before .before .before .before .before .before .before .before .before .before .before .before .before .before .before .before .before .args .few)) (highSlot (c .before .before .before .before .before .before .before .before .before .before .before .before .before .before .before .before .before .before .before .before .before .before .before .before .args .few)) (c .before .before .before .before .before .before .before .before .before .before .before .before .before .before .before .before .before .before .before .before .before .before .before .before .args .s .now) _ _ _ _ (c .before .before .before .before .before .before .before .before .before .before .before .before .before .before .before .before .before .before .before .before .loop .inv .2) (c .before .before .before .before .before .before .before .before .before .before .before .before .before .before .before .before .before .before .before .loop-test .taken) (c .before .before .before .before .before .before .before .before .before .before .before .before .before .before .before .before .before .content .result .now) _ (rw part-to-end at (c .before .before .before .before .before .before .before .before .before .before .before .before .before .before .before .before .before .content .ensures .0)) _ (rw part-to-end at (c .before .before .before .before .before .before .before .repeats .ensures)) (c .before .before .before .before .before .before .if1 .left) j k _ _ _ (c .before .before .before .before .before .before .before .before .before .before .before .before .before .before .before .low-slot .ensures ∙ ap (lowOf (c .before .before .before .before .before .before .before .before .before .before .before .before .before .before .before .before .before .before .before .before .before .before .before .before .args .few)) (c .before .before .before .before .before .before .before .before .before .before .before .before .before .before .before .before .hash .ensures)) (c .before .before .before .before .before .before .before .before .before .before .before .before .before .before .high-slot .ensures ∙ ap (highOf (c .before .before .before .before .before .before .before .before .before .before .before .before .before .before .before .before .before .before .before .before .before .before .before .before .args .few)) (c .before .before .before .before .before .before .before .before .before .before .before .before .before .before .before .before .hash .ensures)) (c .before .before .before .before .before .before .before .before .before .before .before .before .before .mark .ensures ∙ ap markOf (c .before .before .before .before .before .before .before .before .before .before .before .before .before .before .before .before .hash .ensures)) low high (c .before .before .before .before .take .ensures) (c .before .before .take2 .ensures) _ (rw part-to-end at (c .field-len .ensures)))
 
 same-length-2 : tie.Need-same-length-2 Inv-loop μ-loop
 same-length-2 c = c .before .loop .inv .0

@@ -1,6 +1,6 @@
 -- `schema::names::repeats` meets its contract. Assumes nothing.
 use mathlib.Core.Path.{sym}
-use Rattle.schema.proofs.Looking.{not-true}
+use borrow.Author.Tests.{not-true}
 use Rattle.schema.proofs.names.repeats.Statement.{statement}
 use Rattle.schema.proofs.names.repeats.Tie as tie
 

@@ -5,7 +5,7 @@ use mathlib.Core.Path.{sym, _∙_}
 use lib.ListN.{length, length-drop}
 use Rattle.text.proofs.ReadLaws.{reads-text}
 use Rattle.frame.specs.SchemaFrame.{readField, readSchema}
-use Rattle.frame.proofs.Reading.{suffix, reads-eq}
+use Rattle.frame.proofs.Reading.{reads-eq}
 use Rattle.frame.proofs.Measuring.{spans-le, spans-eq}
 use Rattle.frame.proofs.Counting.{reads-list, Walking, walking-start, walking-first, walking-step, walking-end}
 use Rattle.frame.proofs.SchemaNodes.{schema-there}
@@ -13,6 +13,7 @@ use Rattle.schema.proofs.Skipping.{text-held, leaf-content, array-known
 use borrow.Author.Needs.{needs}
 use borrow.Fn.Kinds.{In}
 use borrow.Fn.PlainCycle.{Measures, is, falls, and}
+use borrow.Rule.Slice.PartAt.{part-to-end}
 use Rattle.schema.proofs.skip.content_skip.Reads as content-skip
 use Rattle.schema.proofs.skip.content_skip.Kinds as content-skip-kinds
 use Rattle.schema.proofs.skip.+content_skip+field_len+fields_skip+schema_len+union_skip+variants_skip.Lts-content_skip as content-skip-lts
@@ -160,25 +161,25 @@ field-len-part-default-skip-start : (t : ℕ) → field-len-lts.Need-part-defaul
 field-len-part-default-skip-start t c = c .content .ensures .1 .0
 
 field-len-default-skip-requires : (t : ℕ) → field-len-lts.Need-default-skip-requires (field-len-claims t) (field-len-at t) field-len.Post
-field-len-default-skip-requires t c κs = rw suffix (field-default _ _ (c .before .before .before .pre .1) _ (text-held _ _ (field-text _ _ (c .before .before .before .pre .1)) (c .before .content .ensures .0) (c .before .content .ensures .1 .0)))
+field-len-default-skip-requires t c κs = rw part-to-end (field-default _ _ (c .before .before .before .pre .1) _ (text-held _ _ (field-text _ _ (c .before .before .before .pre .1)) (c .before .content .ensures .0) (c .before .content .ensures .1 .0)))
 
 field-len-add-e : (t : ℕ) → field-len-lts.Need-add-e (field-len-claims t) (field-len-at t) field-len.Post
-field-len-add-e t c = omega (arith, c .before .before .content .ensures .1 .0, spans-le _ _ _ (rw suffix at (c .default-skip .ensures)), length-drop (2 + length (c .before .before .content .result .now)) (c .before .before .before .before .args .s .now), c .before .before .before .before .good)
+field-len-add-e t c = omega (arith, c .before .before .content .ensures .1 .0, spans-le _ _ _ (rw part-to-end at (c .default-skip .ensures)), length-drop (2 + length (c .before .before .content .result .now)) (c .before .before .before .before .args .s .now), c .before .before .before .before .good)
 
 field-len-sub-schema-len : (t : ℕ) → field-len-lts.Need-sub-schema-len (field-len-claims t) (field-len-at t) field-len.Post
-field-len-sub-schema-len t c = omega (arith, c .before .before .content .ensures .1 .0, spans-le _ _ _ (rw suffix at (c .default-skip .ensures)), length-drop (2 + length (c .before .before .content .result .now)) (c .before .before .before .before .args .s .now))
+field-len-sub-schema-len t c = omega (arith, c .before .before .content .ensures .1 .0, spans-le _ _ _ (rw part-to-end at (c .default-skip .ensures)), length-drop (2 + length (c .before .before .content .result .now)) (c .before .before .before .before .args .s .now))
 
 field-len-part-schema-len-start : (t : ℕ) → field-len-lts.Need-part-schema-len-start (field-len-claims t) (field-len-at t) field-len.Post
-field-len-part-schema-len-start t c = omega (arith, c .before .before .content .ensures .1 .0, spans-le _ _ _ (rw suffix at (c .default-skip .ensures)), length-drop (2 + length (c .before .before .content .result .now)) (c .before .before .before .before .args .s .now))
+field-len-part-schema-len-start t c = omega (arith, c .before .before .content .ensures .1 .0, spans-le _ _ _ (rw part-to-end at (c .default-skip .ensures)), length-drop (2 + length (c .before .before .content .result .now)) (c .before .before .before .before .args .s .now))
 
 field-len-schema-len-requires : (t : ℕ) → field-len-lts.Need-schema-len-requires (field-len-claims t) (field-len-at t) field-len.Post
-field-len-schema-len-requires t c κs = (omega arith, rw suffix (field-schema _ _ (c .before .before .before .before .before .pre .1) _ (text-held _ _ (field-text _ _ (c .before .before .before .before .before .pre .1)) (c .before .before .before .content .ensures .0) (c .before .before .before .content .ensures .1 .0)) _ (rw suffix at (c .before .default-skip .ensures))))
+field-len-schema-len-requires t c κs = (omega arith, rw part-to-end (field-schema _ _ (c .before .before .before .before .before .pre .1) _ (text-held _ _ (field-text _ _ (c .before .before .before .before .before .pre .1)) (c .before .before .before .content .ensures .0) (c .before .before .before .content .ensures .1 .0)) _ (rw part-to-end at (c .before .default-skip .ensures))))
 
 field-len-add-result : (t : ℕ) → field-len-lts.Need-add-result (field-len-claims t) (field-len-at t) field-len.Post
-field-len-add-result t c = omega (arith, c .before .before .before .before .content .ensures .1 .0, spans-le _ _ _ (rw suffix at (c .before .before .default-skip .ensures)), length-drop (2 + length (c .before .before .before .before .content .result .now)) (c .before .before .before .before .before .before .args .s .now), spans-le _ _ _ (rw suffix at (c .schema-len .ensures)), length-drop (2 + length (c .before .before .before .before .content .result .now) + c .before .before .default-skip .result) (c .before .before .before .before .before .before .args .s .now), c .before .before .before .before .before .before .good)
+field-len-add-result t c = omega (arith, c .before .before .before .before .content .ensures .1 .0, spans-le _ _ _ (rw part-to-end at (c .before .before .default-skip .ensures)), length-drop (2 + length (c .before .before .before .before .content .result .now)) (c .before .before .before .before .before .before .args .s .now), spans-le _ _ _ (rw part-to-end at (c .schema-len .ensures)), length-drop (2 + length (c .before .before .before .before .content .result .now) + c .before .before .default-skip .result) (c .before .before .before .before .before .before .args .s .now), c .before .before .before .before .before .before .good)
 
 field-len-returns : (t : ℕ) → field-len-lts.Need-returns (field-len-claims t) (field-len-at t) field-len.Post
-field-len-returns t c = field-spans _ _ (c .before .before .before .before .before .before .pre .1) _ (text-held _ _ (field-text _ _ (c .before .before .before .before .before .before .pre .1)) (c .before .before .before .before .content .ensures .0) (c .before .before .before .before .content .ensures .1 .0)) _ (rw suffix at (c .before .before .default-skip .ensures)) _ (rw suffix at (c .schema-len .ensures))
+field-len-returns t c = field-spans _ _ (c .before .before .before .before .before .before .pre .1) _ (text-held _ _ (field-text _ _ (c .before .before .before .before .before .before .pre .1)) (c .before .before .before .before .content .ensures .0) (c .before .before .before .before .content .ensures .1 .0)) _ (rw part-to-end at (c .before .before .default-skip .ensures)) _ (rw part-to-end at (c .schema-len .ensures))
 
 abbrev fields-skip-Inv-loop : fields-skip-lts.InvT-loop
 fields-skip-Inv-loop s depth left₀ at₀ left at = Walking (readField (readSchema depth)) s at left
@@ -199,13 +200,13 @@ fields-skip-part-field-len-start : (t : ℕ) → fields-skip-lts.Need-part-field
 fields-skip-part-field-len-start t c = omega (arith, c .before .loop .inv .inside)
 
 fields-skip-field-len-requires : (t : ℕ) → fields-skip-lts.Need-field-len-requires (fields-skip-claims t) (fields-skip-at t) fields-skip.Post fields-skip-Inv-loop fields-skip-μ-loop
-fields-skip-field-len-requires t c κs = (omega arith, rw suffix (walking-first (readField (readSchema (c .before .before .before .before .before .args .depth))) (c .before .before .before .before .before .args .s .now) _ _ (c .before .before .loop .inv) (c .before .before .before .before .before .pre .1) (c .before .loop-test .taken)))
+fields-skip-field-len-requires t c κs = (omega arith, rw part-to-end (walking-first (readField (readSchema (c .before .before .before .before .before .args .depth))) (c .before .before .before .before .before .args .s .now) _ _ (c .before .before .loop .inv) (c .before .before .before .before .before .pre .1) (c .before .loop-test .taken)))
 
 fields-skip-add-at : (t : ℕ) → fields-skip-lts.Need-add-at (fields-skip-claims t) (fields-skip-at t) fields-skip.Post fields-skip-Inv-loop fields-skip-μ-loop
-fields-skip-add-at t c = omega (arith, spans-le _ _ _ (rw suffix at (c .field-len .ensures)), length-drop (c .before .before .before .loop .at) (c .before .before .before .before .before .before .args .s .now), c .before .before .before .before .before .before .good, c .before .before .before .loop .inv .inside)
+fields-skip-add-at t c = omega (arith, spans-le _ _ _ (rw part-to-end at (c .field-len .ensures)), length-drop (c .before .before .before .loop .at) (c .before .before .before .before .before .before .args .s .now), c .before .before .before .before .before .before .good, c .before .before .before .loop .inv .inside)
 
 fields-skip-loop-again : (t : ℕ) → fields-skip-lts.Need-loop-again (fields-skip-claims t) (fields-skip-at t) fields-skip.Post fields-skip-Inv-loop fields-skip-μ-loop
-fields-skip-loop-again t c = walking-step (readField (readSchema (c .before .before .before .before .before .before .args .depth))) (c .before .before .before .before .before .before .args .s .now) _ _ (c .before .before .before .loop .inv) _ (c .before .before .loop-test .taken) (rw suffix at (c .field-len .ensures))
+fields-skip-loop-again t c = walking-step (readField (readSchema (c .before .before .before .before .before .before .args .depth))) (c .before .before .before .before .before .before .args .s .now) _ _ (c .before .before .before .loop .inv) _ (c .before .before .loop-test .taken) (rw part-to-end at (c .field-len .ensures))
 
 fields-skip-returns : (t : ℕ) → fields-skip-lts.Need-returns (fields-skip-claims t) (fields-skip-at t) fields-skip.Post fields-skip-Inv-loop fields-skip-μ-loop
 fields-skip-returns t c = walking-end (readField (readSchema (c .before .before .before .before .args .depth))) (c .before .before .before .before .args .s .now) _ _ (c .before .loop .inv) (c .loop-test .left)
@@ -226,13 +227,13 @@ schema-len-sub-content-skip-2 : (t : ℕ) → schema-len-lts.Need-sub-content-sk
 schema-len-sub-content-skip-2 t c = let z = schema-there (c .before .before .before .before .before .args .depth) (c .before .before .before .before .before .args .s .now) (c .before .before .before .before .before .pre .1) .0 in omega arith
 
 schema-len-content-skip-requires : (t : ℕ) → schema-len-lts.Need-content-skip-requires (schema-len-claims t) (schema-len-at t) schema-len.Post
-schema-len-content-skip-requires t c κs = let z = schema-there (c .before .before .before .before .before .args .depth) (c .before .before .before .before .before .args .s .now) (c .before .before .before .before .before .pre .1) .0 in (omega arith, rw suffix (known-content (c .before .before .before .before .before .args .depth) (c .before .before .before .before .before .args .s .now) (c .before .before .before .before .before .pre .1)))
+schema-len-content-skip-requires t c κs = let z = schema-there (c .before .before .before .before .before .args .depth) (c .before .before .before .before .before .args .s .now) (c .before .before .before .before .before .pre .1) .0 in (omega arith, rw part-to-end (known-content (c .before .before .before .before .before .args .depth) (c .before .before .before .before .before .args .s .now) (c .before .before .before .before .before .pre .1)))
 
 schema-len-add-result : (t : ℕ) → schema-len-lts.Need-add-result (schema-len-claims t) (schema-len-at t) schema-len.Post
-schema-len-add-result t c = omega (arith, schema-there (c .before .before .before .before .before .before .args .depth) (c .before .before .before .before .before .before .args .s .now) (c .before .before .before .before .before .before .pre .1) .1, spans-le _ _ _ (rw suffix at (c .content-skip .ensures)), length-drop 1 (c .before .before .before .before .before .before .args .s .now), c .before .before .before .before .before .before .good)
+schema-len-add-result t c = omega (arith, schema-there (c .before .before .before .before .before .before .args .depth) (c .before .before .before .before .before .before .args .s .now) (c .before .before .before .before .before .before .pre .1) .1, spans-le _ _ _ (rw part-to-end at (c .content-skip .ensures)), length-drop 1 (c .before .before .before .before .before .before .args .s .now), c .before .before .before .before .before .before .good)
 
 schema-len-returns-2 : (t : ℕ) → schema-len-lts.Need-returns-2 (schema-len-claims t) (schema-len-at t) schema-len.Post
-schema-len-returns-2 t c = schema-spans (c .before .before .before .before .before .before .args .depth) (c .before .before .before .before .before .before .args .s .now) (c .before .before .before .before .before .before .pre .1) _ (rw suffix at (c .content-skip .ensures))
+schema-len-returns-2 t c = schema-spans (c .before .before .before .before .before .before .args .depth) (c .before .before .before .before .before .before .args .s .now) (c .before .before .before .before .before .before .pre .1) _ (rw part-to-end at (c .content-skip .ensures))
 
 union-skip-variants-skip-requires : (t : ℕ) → union-skip-lts.Need-variants-skip-requires (union-skip-claims t) (union-skip-at t) union-skip.Post
 union-skip-variants-skip-requires t c κs = (omega arith, union-variants _ _ (c .before .pre .1))
@@ -244,25 +245,25 @@ union-skip-part-leads-skip-start : (t : ℕ) → union-skip-lts.Need-part-leads-
 union-skip-part-leads-skip-start t c = spans-le _ _ _ (c .variants-skip .ensures)
 
 union-skip-leads-skip-requires : (t : ℕ) → union-skip-lts.Need-leads-skip-requires (union-skip-claims t) (union-skip-at t) union-skip.Post
-union-skip-leads-skip-requires t c κs = rw suffix (union-leads _ _ (c .before .before .before .pre .1) _ (c .before .variants-skip .ensures))
+union-skip-leads-skip-requires t c κs = rw part-to-end (union-leads _ _ (c .before .before .before .pre .1) _ (c .before .variants-skip .ensures))
 
 union-skip-add-e : (t : ℕ) → union-skip-lts.Need-add-e (union-skip-claims t) (union-skip-at t) union-skip.Post
-union-skip-add-e t c = omega (arith, spans-le _ _ _ (c .before .before .variants-skip .ensures), spans-le _ _ _ (rw suffix at (c .leads-skip .ensures)), length-drop (c .before .before .variants-skip .result) (c .before .before .before .before .args .s .now), c .before .before .before .before .good)
+union-skip-add-e t c = omega (arith, spans-le _ _ _ (c .before .before .variants-skip .ensures), spans-le _ _ _ (rw part-to-end at (c .leads-skip .ensures)), length-drop (c .before .before .variants-skip .result) (c .before .before .before .before .args .s .now), c .before .before .before .before .good)
 
 union-skip-sub-positions-skip : (t : ℕ) → union-skip-lts.Need-sub-positions-skip (union-skip-claims t) (union-skip-at t) union-skip.Post
-union-skip-sub-positions-skip t c = omega (arith, spans-le _ _ _ (c .before .before .variants-skip .ensures), spans-le _ _ _ (rw suffix at (c .leads-skip .ensures)), length-drop (c .before .before .variants-skip .result) (c .before .before .before .before .args .s .now))
+union-skip-sub-positions-skip t c = omega (arith, spans-le _ _ _ (c .before .before .variants-skip .ensures), spans-le _ _ _ (rw part-to-end at (c .leads-skip .ensures)), length-drop (c .before .before .variants-skip .result) (c .before .before .before .before .args .s .now))
 
 union-skip-part-positions-skip-start : (t : ℕ) → union-skip-lts.Need-part-positions-skip-start (union-skip-claims t) (union-skip-at t) union-skip.Post
-union-skip-part-positions-skip-start t c = omega (arith, spans-le _ _ _ (c .before .before .variants-skip .ensures), spans-le _ _ _ (rw suffix at (c .leads-skip .ensures)), length-drop (c .before .before .variants-skip .result) (c .before .before .before .before .args .s .now))
+union-skip-part-positions-skip-start t c = omega (arith, spans-le _ _ _ (c .before .before .variants-skip .ensures), spans-le _ _ _ (rw part-to-end at (c .leads-skip .ensures)), length-drop (c .before .before .variants-skip .result) (c .before .before .before .before .args .s .now))
 
 union-skip-positions-skip-requires : (t : ℕ) → union-skip-lts.Need-positions-skip-requires (union-skip-claims t) (union-skip-at t) union-skip.Post
-union-skip-positions-skip-requires t c κs = rw suffix (union-positions _ _ (c .before .before .before .before .before .pre .1) _ (c .before .before .before .variants-skip .ensures) _ (rw suffix at (c .before .leads-skip .ensures)))
+union-skip-positions-skip-requires t c κs = rw part-to-end (union-positions _ _ (c .before .before .before .before .before .pre .1) _ (c .before .before .before .variants-skip .ensures) _ (rw part-to-end at (c .before .leads-skip .ensures)))
 
 union-skip-add-result : (t : ℕ) → union-skip-lts.Need-add-result (union-skip-claims t) (union-skip-at t) union-skip.Post
-union-skip-add-result t c = omega (arith, spans-le _ _ _ (c .before .before .before .before .variants-skip .ensures), spans-le _ _ _ (rw suffix at (c .before .before .leads-skip .ensures)), length-drop (c .before .before .before .before .variants-skip .result) (c .before .before .before .before .before .before .args .s .now), spans-le _ _ _ (rw suffix at (c .positions-skip .ensures)), length-drop (c .before .before .before .before .variants-skip .result + c .before .before .leads-skip .result) (c .before .before .before .before .before .before .args .s .now), c .before .before .before .before .before .before .good)
+union-skip-add-result t c = omega (arith, spans-le _ _ _ (c .before .before .before .before .variants-skip .ensures), spans-le _ _ _ (rw part-to-end at (c .before .before .leads-skip .ensures)), length-drop (c .before .before .before .before .variants-skip .result) (c .before .before .before .before .before .before .args .s .now), spans-le _ _ _ (rw part-to-end at (c .positions-skip .ensures)), length-drop (c .before .before .before .before .variants-skip .result + c .before .before .leads-skip .result) (c .before .before .before .before .before .before .args .s .now), c .before .before .before .before .before .before .good)
 
 union-skip-returns : (t : ℕ) → union-skip-lts.Need-returns (union-skip-claims t) (union-skip-at t) union-skip.Post
-union-skip-returns t c = union-spans _ _ (c .before .before .before .before .before .before .pre .1) _ (c .before .before .before .before .variants-skip .ensures) _ (rw suffix at (c .before .before .leads-skip .ensures)) _ (rw suffix at (c .positions-skip .ensures))
+union-skip-returns t c = union-spans _ _ (c .before .before .before .before .before .before .pre .1) _ (c .before .before .before .before .variants-skip .ensures) _ (rw part-to-end at (c .before .before .leads-skip .ensures)) _ (rw part-to-end at (c .positions-skip .ensures))
 
 abbrev variants-skip-Inv-loop : variants-skip-lts.InvT-loop
 variants-skip-Inv-loop s depth left₀ at₀ left at = Walking (readSchema depth) s at left
@@ -283,13 +284,13 @@ variants-skip-part-schema-len-start : (t : ℕ) → variants-skip-lts.Need-part-
 variants-skip-part-schema-len-start t c = omega (arith, c .before .loop .inv .inside)
 
 variants-skip-schema-len-requires : (t : ℕ) → variants-skip-lts.Need-schema-len-requires (variants-skip-claims t) (variants-skip-at t) variants-skip.Post variants-skip-Inv-loop variants-skip-μ-loop
-variants-skip-schema-len-requires t c κs = (omega arith, rw suffix (walking-first (readSchema (c .before .before .before .before .before .args .depth)) (c .before .before .before .before .before .args .s .now) _ _ (c .before .before .loop .inv) (c .before .before .before .before .before .pre .1) (c .before .loop-test .taken)))
+variants-skip-schema-len-requires t c κs = (omega arith, rw part-to-end (walking-first (readSchema (c .before .before .before .before .before .args .depth)) (c .before .before .before .before .before .args .s .now) _ _ (c .before .before .loop .inv) (c .before .before .before .before .before .pre .1) (c .before .loop-test .taken)))
 
 variants-skip-add-at : (t : ℕ) → variants-skip-lts.Need-add-at (variants-skip-claims t) (variants-skip-at t) variants-skip.Post variants-skip-Inv-loop variants-skip-μ-loop
-variants-skip-add-at t c = omega (arith, spans-le _ _ _ (rw suffix at (c .schema-len .ensures)), length-drop (c .before .before .before .loop .at) (c .before .before .before .before .before .before .args .s .now), c .before .before .before .before .before .before .good, c .before .before .before .loop .inv .inside)
+variants-skip-add-at t c = omega (arith, spans-le _ _ _ (rw part-to-end at (c .schema-len .ensures)), length-drop (c .before .before .before .loop .at) (c .before .before .before .before .before .before .args .s .now), c .before .before .before .before .before .before .good, c .before .before .before .loop .inv .inside)
 
 variants-skip-loop-again : (t : ℕ) → variants-skip-lts.Need-loop-again (variants-skip-claims t) (variants-skip-at t) variants-skip.Post variants-skip-Inv-loop variants-skip-μ-loop
-variants-skip-loop-again t c = walking-step (readSchema (c .before .before .before .before .before .before .args .depth)) (c .before .before .before .before .before .before .args .s .now) _ _ (c .before .before .before .loop .inv) _ (c .before .before .loop-test .taken) (rw suffix at (c .schema-len .ensures))
+variants-skip-loop-again t c = walking-step (readSchema (c .before .before .before .before .before .before .args .depth)) (c .before .before .before .before .before .before .args .s .now) _ _ (c .before .before .before .loop .inv) _ (c .before .before .loop-test .taken) (rw part-to-end at (c .schema-len .ensures))
 
 variants-skip-returns : (t : ℕ) → variants-skip-lts.Need-returns (variants-skip-claims t) (variants-skip-at t) variants-skip.Post variants-skip-Inv-loop variants-skip-μ-loop
 variants-skip-returns t c = walking-end (readSchema (c .before .before .before .before .args .depth)) (c .before .before .before .before .args .s .now) _ _ (c .before .loop .inv) (c .loop-test .left)
