@@ -12,3 +12,4 @@ pub mod Texts
 pub mod Whole
 pub mod ValueNodes
 pub mod SchemaNodes
+pub mod Shrinking

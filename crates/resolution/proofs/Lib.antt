@@ -10,7 +10,6 @@ pub mod UnionKinds
 pub mod UnionTables
 pub mod UnionChoice
 pub mod UnionCycle
-pub mod NodeLengths
 pub mod SoundParts
 pub mod DefaultLaws
 pub mod LeafSchemas

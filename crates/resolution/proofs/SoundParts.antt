@@ -29,7 +29,7 @@ use Rattle.avro.specs.Defaults.{defaultsShort, fieldDefaultsShort, variantDefau
 use Rattle.resolution.specs.Contract.{Ready}
 use Rattle.resolution.specs.Shortness.{SoundRead, testRead, ShortLen, nextLen, fieldShort}
 use Rattle.resolution.proofs.ReadParts.{schema-array, schema-map, schema-fields}
-use Rattle.resolution.proofs.NodeLengths.{node-some}
+use Rattle.frame.proofs.Shrinking.{schema-spans-positive}
 use Rattle.resolution.proofs.UnionReading.{union-parts}
 
 -- ---- what was read
@@ -90,7 +90,7 @@ next-some (suc n) f = omega arith
 
 -- a node whose defaults are short
 pub node-len : (d : ℕ) (s : List ℕ) → testRead defaultsShort (readSchema d s) ≡ true → (n : ℕ) → Spans (readSchema d s) s n → ShortLen defaultsShort (readSchema d s) s n
-node-len d s e n v = passes-len defaultsShort (readSchema d s) s n (node-some d s n v) e v
+node-len d s e n v = passes-len defaultsShort (readSchema d s) s n (schema-spans-positive d s n v) e v
 
 -- ---- a node that is as sound and as short as its child
 

@@ -1,6 +1,5 @@
 // Number 4: whether every default that its union's first variant accepts is at most 4,096 bytes there. A default is resolved
-// against a variant whose own defaults are known to be short, so inner schemas come first. The walk answers lengths, so that
-// what it has walked is not measured again.
+// against a variant whose own defaults are known to be short, so inner schemas come first.
 use crate::resolve::resolve_node;
 use buffer::Answer;
 use field::field_at;
@@ -26,7 +25,8 @@ pub fn defaults_short(s: &[u8], out: &mut [u8], ds: usize) -> bool
     short_len(s, out, ds) != 0
 }
 
-// The length of a schema node whose defaults are all short, else 0.
+// The length of a schema node whose defaults are all short, else 0: whoever walks on need not measure it. Only a union is
+// measured once it was walked, with the tables behind its variants.
 fn short_len(s: &[u8], out: &mut [u8], ds: usize) -> usize
     requires { ⌜ SoundRead schemaSound (readSchema ds (now s)) ⌝ }
     ensures { λ r. ⌜ ShortLen defaultsShort (readSchema ds (now (s .entry))) (now (s .entry)) r ⌝ }

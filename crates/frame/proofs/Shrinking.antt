@@ -151,14 +151,14 @@ schema-shrinks (suc d) n (k ∷ s) h = schema-content-shrinks (readSchema d) (sc
 
 -- ---- a node has a byte
 
-node-leaves : (d : ℕ) (s : List ℕ) (t : Schema) (r : List ℕ) → readSchema d s ≡ some (t, r) → length r < length s
+schema-leaves : (d : ℕ) (s : List ℕ) (t : Schema) (r : List ℕ) → readSchema d s ≡ some (t, r) → length r < length s
 unfolding readSchema
-node-leaves zero s t r e = let z : _≡_ {A = ℕ} 0 1 = cc in absurd (omega arith)
-node-leaves (suc d) [] t r e = let z : _≡_ {A = ℕ} 0 1 = cc in absurd (omega arith)
-node-leaves (suc d) (k ∷ s) t r e =
+schema-leaves zero s t r e = let z : _≡_ {A = ℕ} 0 1 = cc in absurd (omega arith)
+schema-leaves (suc d) [] t r e = let z : _≡_ {A = ℕ} 0 1 = cc in absurd (omega arith)
+schema-leaves (suc d) (k ∷ s) t r e =
     let h : length r ≤ length s = subst (λ (m : Read Schema). Leaves (length s) m) e (schema-content-shrinks (readSchema d) (schema-shrinks d) k (length s) s (omega arith)) in
     omega (arith, h)
 
-pub node-some : (d : ℕ) (s : List ℕ) (n : ℕ) → Spans (readSchema d s) s n → 0 < n
+pub schema-spans-positive : (d : ℕ) (s : List ℕ) (n : ℕ) → Spans (readSchema d s) s n → 0 < n
 unfolding Spans
-node-some d s n w = let h = node-leaves d s (w .1 .0) (drop n s) (w .1 .1) in omega (arith, h, length-drop n s)
+schema-spans-positive d s n w = let h = schema-leaves d s (w .1 .0) (drop n s) (w .1 .1) in omega (arith, h, length-drop n s)
