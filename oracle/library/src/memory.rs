@@ -1,5 +1,6 @@
 //! The entry on damaged frames, for a run under valgrind: each slice is a heap block of just its
-//! length, and the result buffer and the workspace are left as the allocator gives them.
+//! length, and the result buffer is left as the allocator gives it. The workspace holds junk: the
+//! entry reads it to see what of it is not zero.
 use crate::entry::{WORKSPACE, admitted, hulmbax_resolve, with_lengths};
 use oracle::answer::{self, Answer};
 use oracle::frame::{MAX_FRAME, hex};
@@ -79,7 +80,7 @@ fn lengths(want: &Answer) -> [usize; 2] {
 
 fn call(schema: &[u8], record: &[u8], result_len: usize, want: &Answer) -> bool {
     let (schema_block, record_block) = (Block::of(schema), Block::of(record));
-    let (result, workspace) = (Block::new(result_len), Block::new(WORKSPACE));
+    let (result, workspace) = (Block::new(result_len), Block::of(&[0xa5; WORKSPACE]));
     let given = unsafe {
         hulmbax_resolve(
             schema_block.0,
