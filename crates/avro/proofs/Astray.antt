@@ -29,7 +29,7 @@ one-peeled i j n = refl
 -- the variant that the kind table gives is taken untried: its refusal is shown, though another variant would do
 pub table-untried : (t : Text)
     → resolve (Schema.Union (variant (Schema.Plain Kind.Int) (variant (Schema.Plain Kind.String) noVariants)) ((Kind.String, 0) ∷ []) []) (Value.Octets Kind.String t) ≡ no 6
-unfolding resolve resolvePlain resolve-int kindOf peel schemaKind Union.resolve-union Union.inUnion Union.find-schema-with-known-schemata Union.choose Union.unnamedVariant Union.unnamedKind Union.namedVariant Union.namedKind Union.takeVariant Union.lookupKind Base.after Base.accepted
+unfolding resolve resolvePlain resolve-int kindOf peel schemaKind Union.resolve-union Union.inUnion Union.find-schema-with-known-schemata Union.choose Union.unnamedVariant Union.unnamedKind Union.namedVariant Union.namedKind Union.takeVariant Union.lookupKind Union.tableLookup Union.mustBeTried Base.after Base.accepted
 table-untried t = refl
 
 -- a Long is rounded once: by way of a Double it would be 5e800000

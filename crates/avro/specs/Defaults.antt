@@ -1,7 +1,6 @@
 -- Number 4: a default that its union's first variant accepts becomes longer than 4,096 bytes there.
-use Prim.Native.Nat.{ℕ}
 use mathlib.Core.Option.{Option, none, some}
-use mathlib.Core.Bool.{Bool, true, false, _&&_, _||_, not}
+use mathlib.Core.Bool.{Bool, true, _&&_, _||_, not}
 use lib.Dec.{leb}
 use lib.ListN.{length}
 use Rattle.base.specs.Base.{Result, ok, no}

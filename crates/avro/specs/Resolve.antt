@@ -1,19 +1,14 @@
 -- `Value::resolve_internal` (src/types.rs) with no names: a value against any schema. A refusal is document 01's number, 6 to 17.
-use Prim.Native.Nat.{ℕ, zero, suc}
 use mathlib.Core.List.{List, [], _∷_}
 use mathlib.Core.Option.{Option, none, some}
-use mathlib.Core.Bool.{Bool, true, false, _&&_, _||_}
+use mathlib.Core.Bool.{_||_}
 use lib.Dec.{eqb}
-use Rattle.base.specs.Base.{if_then_else_, Result, ok, no, after}
+use Rattle.base.specs.Base.{if_then_else_, Result, ok, no, _>>=_}
 use Rattle.text.specs.Text.{Text, same}
 use Rattle.frame.specs.Kind
 use Rattle.frame.specs.Tree.{Value, Values, Entries, Schema, Fields, Variants, noItems, item, noEntries, entry, noFields, field, noVariants, variant, is, items, entries, peel, schemaKind}
 use Rattle.types.specs.Types.{Outcome, resolvePlain, resolve-fixed, resolve-decimal, resolve-uuid, resolve-duration, resolve-enum}
 use Rattle.avro.specs.Union.{Trial, schema-to-base-schemakind, resolve-union}
-
-infixl 20 _>>=_
-abbrev _>>=_ : {A B : Type 0} → Result A → (A → Result B) → Result B
-r >>= f = after r f
 
 -- ---- arrays and maps
 
@@ -94,7 +89,8 @@ unfoldable mutual
     rs ← resolveFields fs es
     ok (entry n r rs)
 
-  -- a default goes to the first variant of a union field; for any other field it is the value
+  -- a default goes to the first variant of a union field; for any other field it is the value. (The crate resolves an Enum's
+  -- default here and then again, which gives the same: `enum-twice`.)
   pub startDefault : Schema → Value → Outcome
   startDefault (Schema.Plain k) d = ok d
   startDefault (Schema.Fixed n) d = ok d

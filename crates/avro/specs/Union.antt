@@ -1,18 +1,14 @@
 -- src/schema/union.rs: which variant of a union a value goes to, given what comes of trying it against each.
-use Prim.Native.Nat.{ℕ, zero, suc}
+use Prim.Native.Nat.{ℕ}
 use mathlib.Core.List.{List, [], _∷_}
 use mathlib.Core.Option.{Option, none, some}
-use mathlib.Core.Bool.{Bool, true, false, _&&_, _||_, not}
+use mathlib.Core.Bool.{Bool, _&&_, _||_, not}
 use lib.Dec.{leb, ltb, eqb}
 use lib.ListN.{getD}
-use Rattle.base.specs.Base.{if_then_else_, Result, ok, no, after, accepted}
+use Rattle.base.specs.Base.{if_then_else_, ok, no, _>>=_, accepted}
 use Rattle.frame.specs.Kind
 use Rattle.frame.specs.Tree.{Value, Schema, UuidForm, kindOf, peel}
 use Rattle.types.specs.Types.{Outcome, later}
-
-infixl 20 _>>=_
-abbrev _>>=_ : {A B : Type 0} → Result A → (A → Result B) → Result B
-r >>= f = after r f
 
 -- schema_to_base_schemakind: the kind with the logical types reduced to their base
 unfoldable pub schema-to-base-schemakind : Schema → ℕ
@@ -65,25 +61,35 @@ unfoldable pub lookupKind : ℕ → List (ℕ × ℕ) → Option ℕ
 lookupKind k [] = none
 lookupKind k (e ∷ es) = if eqb (e .0) k then some (e .1) else lookupKind k es
 
+-- the same, if there is a kind to look up
+unfoldable pub tableLookup : List (ℕ × ℕ) → Option ℕ → Option ℕ
+tableLookup kinds none = none
+tableLookup kinds (some k) = lookupKind k kinds
+
+-- an Array or a Map
+unfoldable pub mustBeTried : ℕ → Bool
+mustBeTried k = eqb k Kind.Map || eqb k Kind.Array
+
 -- a variant of the kind table is taken untried, unless it is an Array or a Map
 unfoldable pub takeVariant : List Trial → Option ℕ → Option ℕ
 takeVariant ts none = none
 takeVariant ts (some i) =
     let t = getD ts i noTrial in
-    if (eqb (t .kind) Kind.Map || eqb (t .kind) Kind.Array) && not (accepted (t .outcome)) then none else some i
+    if mustBeTried (t .kind) && not (accepted (t .outcome)) then none else some i
 
 -- the variant that the kind table gives
 unfoldable pub unnamedVariant : List Trial → List (ℕ × ℕ) → Option ℕ → Option ℕ
-unnamedVariant ts kinds none = none
-unnamedVariant ts kinds (some k) = takeVariant ts (lookupKind k kinds)
+unnamedVariant ts kinds k = takeVariant ts (tableLookup kinds k)
+
+-- the position i has the base kind k, and its variant resolves
+unfoldable pub takes : ℕ → List Trial → ℕ → Bool
+takes k ts i = let t = getD ts i noTrial in eqb (t .base) k && accepted (t .outcome)
 
 -- the first named variant of the kind that resolves
 unfoldable pub namedVariant : List Trial → List ℕ → Option ℕ → Option ℕ
 namedVariant ts named none = none
 namedVariant ts [] (some k) = none
-namedVariant ts (i ∷ named) (some k) =
-    let t = getD ts i noTrial in
-    if eqb (t .base) k && accepted (t .outcome) then some i else namedVariant ts named (some k)
+namedVariant ts (i ∷ named) (some k) = if takes k ts i then some i else namedVariant ts named (some k)
 
 -- the first variant that resolves
 unfoldable pub firstThatResolves : List Trial → Option ℕ

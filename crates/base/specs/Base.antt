@@ -21,6 +21,11 @@ unfoldable pub after : {A B : Type 0} → Result A → (A → Result B) → Resu
 after (ok a) f = f a
 after (no n) f = no n
 
+-- the same in a `do` block
+infixl 20 _>>=_
+abbrev pub _>>=_ : {A B : Type 0} → Result A → (A → Result B) → Result B
+r >>= f = after r f
+
 unfoldable pub accepted : {A : Type 0} → Result A → Bool
 accepted (ok a) = true
 accepted (no n) = false

@@ -1,15 +1,14 @@
 -- Laws of writing a result piece by piece: what was built stays, and what is written into the tail stands behind it.
-use Prim.Native.Nat.{ℕ, zero, suc, _+_, _-_, _≤_, _<_, min}
-use mathlib.Core.Path.{_≡_, refl, sym, ap, _∙_, subst}
-use mathlib.Core.List.{List, [], _∷_, _++_, append-assoc, append-nil}
+use Prim.Native.Nat.{ℕ, suc, _+_, _-_, _≤_, _<_, min}
+use mathlib.Core.Path.{_≡_, refl, ap, _∙_}
+use mathlib.Core.List.{List, [], _++_, append-assoc, append-nil}
 use native.Mathlib.Omega.{arith}
 use native.Mathlib.Numerals.{add-one}
-use lib.ListN.{length, getD, take, drop, set, length-drop, length-append, length-take, drop-of-length-le}
+use lib.ListN.{length, getD, take, drop, set, length-drop, length-append, drop-of-length-le}
 use lib.Seq.{drop-cons, take-suc, set-at, take-length, length-take-le, take-at, take-append-add}
-use Rattle.base.specs.Base.{Result, ok, no}
+use Rattle.base.specs.Base.{no}
 use Rattle.buffer.specs.Built.{Built, Wrote}
-use Rattle.buffer.specs.declared.Answer.{Answer}
-use Rattle.buffer.specs.declared.Answer.the-variants.{Accepted, Refused}
+use Rattle.buffer.specs.declared.Answer.the-variants.{Refused}
 
 -- ---- copying
 

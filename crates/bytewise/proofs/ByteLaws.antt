@@ -25,13 +25,13 @@ use Rattle.frame.proofs.ValueNodes.{value-content}
 use Rattle.buffer.specs.Built.{Built, Wrote}
 use Rattle.buffer.specs.declared.Answer.{Answer}
 use Rattle.buffer.specs.declared.Answer.the-variants as A
-use Rattle.types.specs.Types.{try-u8, byteItems, resolve-bytes}
+use Rattle.types.specs.Types.{inByte, intByte, try-u8, byteItems, resolve-bytes}
 use Rattle.types.specs.Contract.{encoded, onRead}
 use Rattle.types.proofs.NodeLaws.{wrote-ok, wrote-no}
 use Rattle.types.proofs.ScalarLaws.{int-kept, int-of-long, int-past, int-refused}
 use Rattle.types.proofs.PartLaws.{content-Bytes, content-Array, encode-counted, built-counted}
 use Rattle.value.proofs.NodeLaws.{arrayOf}
-use Rattle.bytewise.specs.Items.{byteOf, inByte, intByte, listBytes, itemsAsBytes}
+use Rattle.bytewise.specs.Items.{byteOf, listBytes, itemsAsBytes}
 use Rattle.bytewise.specs.declared.Byte.{Byte}
 use Rattle.bytewise.specs.declared.Byte.the-variants.{Is, Refused}
 
@@ -71,11 +71,11 @@ byte-answer f x w r y b e g h = h ∙ sym (ap byteOf (ap (onRead f) e ∙ g))
 -- ---- one Union peeled off
 
 pub try-held : (i : ℕ) (w : Value) → try-u8 (Value.Union i w) ≡ intByte w
-unfolding try-u8 intByte inByte peel
+unfolding try-u8 peel
 try-held i w = refl
 
 pub try-plain : (w : Value) → (kindOf w ≡ Kind.Union → ⊥) → try-u8 w ≡ intByte w
-unfolding try-u8 intByte inByte peel kindOf
+unfolding try-u8 peel kindOf
 try-plain (Value.Scalar k n) f = refl
 try-plain (Value.Octets k b) f = refl
 try-plain (Value.Enum i t) f = refl
@@ -136,7 +136,7 @@ module _ (d : ℕ) (s : List ℕ) (p : Reads (readValue d s)) where
 
   pub array-answer : getD s 0 0 ≡ Kind.Array → (x : List ℕ) → x ≡ drop 1 s → (o : List ℕ) (a : Answer)
       → Wrote (onRead (λ vs. encoded (itemsAsBytes vs)) (readList (readValue (d - 1)) x)) o a → Wrote (onRead (λ w. encoded (resolve-bytes w)) (readValue d s)) o a
-  unfolding onRead _>>=_ resolve-bytes itemsAsBytes listBytes kindOf items
+  unfolding onRead _>>=_ itemsAsBytes
   array-answer h x l o a w =
       subst (λ z. Wrote z o a)
       (ap (λ (y : List ℕ). onRead (λ vs. encoded (itemsAsBytes vs)) (readList (readValue (d - 1)) y)) l ∙ sym (ap (onRead (λ w. encoded (resolve-bytes w))) (array-node h) ∙ go (readList (readValue (d - 1)) (drop 1 s)))) w
@@ -265,7 +265,7 @@ module _ (p : List ℕ → Read Value) (s : List ℕ) (left at : ℕ) (o : List 
 
 -- the outcome of all items, as a node
 items-outcome : (y : Read (List Value)) → onRead (λ vs. encoded (itemsAsBytes vs)) y ≡ encoded (after (onRead listBytes y) (λ s. ok (Value.Octets Kind.Bytes s)))
-unfolding onRead itemsAsBytes encoded after
+unfolding onRead itemsAsBytes resolve-bytes listBytes encoded after kindOf items
 items-outcome none = refl
 items-outcome (some z) = refl
 

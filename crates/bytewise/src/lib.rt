@@ -8,9 +8,9 @@ ghost use Rattle.text.specs.Measured.{Reads};
 ghost use Rattle.frame.specs.Readers.{readList};
 ghost use Rattle.frame.specs.ValueFrame.{readValue};
 ghost use Rattle.buffer.specs.Built.{Wrote};
-ghost use Rattle.types.specs.Types.{try-u8, resolve-bytes};
+ghost use Rattle.types.specs.Types.{inByte, intByte, try-u8, resolve-bytes};
 ghost use Rattle.types.specs.Contract.{encoded, onRead};
-ghost use Rattle.bytewise.specs.Items.{byteOf, inByte, intByte, itemsAsBytes};
+ghost use Rattle.bytewise.specs.Items.{byteOf, itemsAsBytes};
 
 // What an item is as a byte, or the number of its refusal.
 pub enum Byte {

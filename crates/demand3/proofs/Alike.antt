@@ -19,7 +19,7 @@ use Rattle.types.specs.Types.{Outcome, resolvePlain, resolve-null}
 use Rattle.avro.specs.Union.{Trial, resolve-union}
 use Rattle.avro.specs.Resolve.{resolve, resolveFields, startDefault, trials, resolve-array, resolve-map, resolve-record, eachItem, eachEntry, fieldValue, lookup, orElse}
 use Rattle.avro.specs.Defaults.{defaultsShort}
-use Rattle.hulmbax.specs.Answer.{answer, checkedSchema, checkedValue, written, bufferAfter, workspaceAfter, workspaceSize}
+use Rattle.hulmbax.specs.Answer.{answer, checkedSchema, checkedValue, checkedResult, bufferAfter, workspaceAfter, workspaceSize}
 use Rattle.demand3.specs.Demand3.{Alike, AreAlike, nullablePair, nullablePairs, isNull, onlyNullLeadsTo, underUnion, change, mapItems, mapEntries, hasName, keepEntry, keepEntries, strip, stripField}
 use Rattle.demand3.proofs.Induction.{pair, sound-field, EveryField, Steps, induction}
 
@@ -385,7 +385,7 @@ answers-same : (schema a b : List ℕ) (tree : Schema) → decodeSchema schema �
 unfolding answer checkedValue after
 answers-same schema a b tree e p l buffer workspace =
     rw (e, l .left-is, l .right-is, is-true (keysRise (l .left)) (l .left-keys), is-true (keysRise (l .right)) (l .right-keys))
-    (ap (λ (r : Result (List ℕ)). if ltb workspace workspaceSize then no 1 else r) (checked-same tree p (l .left) (l .right) (l .equal) (λ r. written buffer (encodeValue r))))
+    (ap (λ (r : Result (List ℕ)). if ltb workspace workspaceSize then no 1 else r) (checked-same tree p (l .left) (l .right) (l .equal) (λ r. checkedResult buffer (encodeValue r))))
 
 pub alike : Alike
 unfolding Alike

@@ -6,7 +6,8 @@ use mathlib.Core.Option.{some}
 use mathlib.Core.Bool.{Bool, true, false, _&&_, _||_, not}
 use lib.Dec.{T, leb, ltb, leb→le, le→leb, nltb→le}
 use lib.Arith.{le→nltb}
-use lib.ListN.{length}
+use lib.ListN.{length, drop}
+use lib.Seq.{take-at}
 use lib.Ieee.Bits.{is-true, is-false}
 use lib.Ieee.Fits.{and-l, and-r}
 use Rattle.base.specs.Base.{if_then_else_, Result, ok, no, after}
@@ -16,8 +17,8 @@ use Rattle.frame.specs.ValueFrame.{decodeValue, encodeValue}
 use Rattle.frame.specs.Sound.{keysRise, schemaSound}
 use Rattle.avro.specs.Resolve.{resolve}
 use Rattle.avro.specs.Defaults.{defaultsShort}
-use Rattle.hulmbax.specs.Answer.{answer, checkedSchema, checkedValue, written, workspaceSize}
-use Rattle.demand3.specs.Demand3.{Accepted, Fits, Repeats, repeats, longEnough}
+use Rattle.hulmbax.specs.Answer.{answer, checkedSchema, checkedValue, checkedResult, bufferAfter, workspaceSize}
+use Rattle.demand3.specs.Demand3.{Accepted, Fits, Repeats, standing, repeats, longEnough}
 use Rattle.frame.proofs.RoundTrip.{held, decode-encode}
 use Rattle.frame.proofs.ReadHeld.{decode-held, schema-held}
 use Rattle.types.proofs.HeldLeaves.{Kept}
@@ -50,21 +51,21 @@ not-or-l : (a b : Bool) → T (not (a || b)) → T (not a)
 not-or-l true b h = h
 not-or-l false b h = tt
 
-written-okay : (buffer : ℕ) (r : List ℕ) → Okay (λ b. (b ≡ r) × (length r ≤ 65535)) (written buffer r)
-unfolding written
-written-okay buffer r =
+checkedResult-okay : (buffer : ℕ) (r : List ℕ) → Okay (λ b. (b ≡ r) × (length r ≤ 65535)) (checkedResult buffer r)
+unfolding checkedResult
+checkedResult-okay buffer r =
     okay-if _ (ltb 65535 (length r) || ltb buffer (length r)) _ _ (λ _. tt)
     (λ h. (refl, nltb→le 65535 (length r) (not-or-l (ltb 65535 (length r)) (ltb buffer (length r)) h)))
 
 made : (tree : Schema) (input : Value) (buffer workspace : ℕ)
     → Okay (Made tree input) (if ltb workspace workspaceSize then no 1 else
-    after (checkedSchema (some tree)) (λ s. after (checkedValue (some input)) (λ v. after (resolve s v) (λ r. written buffer (encodeValue r)))))
+    after (checkedSchema (some tree)) (λ s. after (checkedValue (some input)) (λ v. after (resolve s v) (λ r. checkedResult buffer (encodeValue r)))))
 made tree input buffer workspace =
     okay-if _ (ltb workspace workspaceSize) _ _ (λ _. tt)
     λ _. okay-after _ _ (checkedSchema (some tree)) _ (schema-okay tree)
     λ s p. okay-after _ _ (checkedValue (some input)) _ (value-okay input)
     λ v q. okay-after _ _ (resolve s v) _ (equal-okay (resolve s v))
-    λ r e. okay-after′ s p v q r e (written buffer (encodeValue r)) (written-okay buffer (encodeValue r))
+    λ r e. okay-after′ s p v q r e (checkedResult buffer (encodeValue r)) (checkedResult-okay buffer (encodeValue r))
   where
     okay-after′ : (s : Schema) → (s ≡ tree) × T (schemaSound tree) × T (defaultsShort tree) → (v : Value) → (v ≡ input) × T (keysRise input) → (r : Value) → resolve s v ≡ ok r
         → (o : Result (List ℕ)) → Okay (λ b. (b ≡ encodeValue r) × (length (encodeValue r) ≤ 65535)) o → Okay (Made tree input) o
@@ -110,7 +111,7 @@ fitting schema value result a = let t = result-tree a in (t .0, t .1, t .2 .fitt
 -- one repeat
 again : {schema value result : List ℕ} (a : Accepted schema value result) (buffer workspace : ℕ) → length result ≤ buffer → workspaceSize ≤ workspace
     → answer schema result buffer workspace ≡ ok result
-unfolding answer checkedSchema checkedValue written after
+unfolding answer checkedSchema checkedValue checkedResult after
 again {schema} {value} {result} a buffer workspace b w =
     let m : Made (a .tree) (a .input) result = made-of a in
     let t : (r : Value) × (decodeValue result ≡ some r) × Stable (a .tree) r × T (keysRise r) × (encodeValue r ≡ result) = result-tree a in
@@ -127,12 +128,18 @@ again {schema} {value} {result} a buffer workspace b w =
       is-false (ltb buffer (length result)) (le→nltb buffer (length result) b),
     )
 
+-- an accepted result stands at the front of its buffer
+standing-ok : (r buffer : List ℕ) → standing (ok r) buffer ≡ ok r
+unfolding standing bufferAfter
+standing-ok r buffer = ap (λ (l : List ℕ). ok l) (take-at r (drop (length r) buffer) (length r) refl)
+
 -- however often
 pub repeating : Repeats
 unfolding Repeats repeats longEnough after
 repeating schema value result a [] h = refl
 repeating schema value result a (c ∷ cs) h =
-    let h₁ : T (leb (length result) (c .0) && leb workspaceSize (c .1)) = and-l (leb (length result) (c .0) && leb workspaceSize (c .1)) (longEnough result cs) h in
-    rw (again a (c .0) (c .1) (leb→le (length result) (c .0) (and-l (leb (length result) (c .0)) (leb workspaceSize (c .1)) h₁))
-    (leb→le workspaceSize (c .1) (and-r (leb (length result) (c .0)) (leb workspaceSize (c .1)) h₁)))
-    (repeating schema value result a cs (and-r (leb (length result) (c .0) && leb workspaceSize (c .1)) (longEnough result cs) h))
+    let b : Bool = leb (length result) (length (c .buffer)) in
+    let w : Bool = leb workspaceSize (length (c .workspace)) in
+    let h₁ : T (b && w) = and-l (b && w) (longEnough result cs) h in
+    rw (again a (length (c .buffer)) (length (c .workspace)) (leb→le (length result) (length (c .buffer)) (and-l b w h₁)) (leb→le workspaceSize (length (c .workspace)) (and-r b w h₁)), standing-ok result (c .buffer))
+    (repeating schema value result a cs (and-r (b && w) (longEnough result cs) h))

@@ -546,7 +546,7 @@ unnamed-other k h =
 take-found : (P : ℕ → Type 0) (ts : List Trial) (o : Option ℕ) → Found P o → Found P (Union.takeVariant ts o)
 unfolding Union.takeVariant
 take-found P ts none p = tt
-take-found P ts (some i) p = go ((eqb (getD ts i Union.noTrial .kind) Kind.Map || eqb (getD ts i Union.noTrial .kind) Kind.Array) && not (accepted (getD ts i Union.noTrial .outcome)))
+take-found P ts (some i) p = go (Union.mustBeTried (getD ts i Union.noTrial .kind) && not (accepted (getD ts i Union.noTrial .outcome)))
   where
     go : (b : Bool) → Found P (if b then none else some i)
     go true = tt
@@ -566,13 +566,13 @@ choose-is ts (some u) (some n) q p r f = go (ltb u n)
 
 find-null : (ts : List Trial) (ks : List (ℕ × ℕ)) (ns : List ℕ) (z : ℕ) → T (onlyNullLeadsTo z ks)
     → Union.firstThatResolves ts ≡ some z → Union.find-schema-with-known-schemata ts ks ns Kind.Null ≡ some z
-unfolding Union.find-schema-with-known-schemata Union.unnamedKind Union.namedKind Union.unnamedVariant Union.namedVariant
+unfolding Union.find-schema-with-known-schemata Union.unnamedKind Union.namedKind Union.unnamedVariant Union.tableLookup Union.namedVariant
 find-null ts ks ns z h f =
     choose-is ts (Union.takeVariant ts (Union.lookupKind Kind.Null ks)) none z (take-found (λ i. i ≡ z) ts (Union.lookupKind Kind.Null ks) (table-null z ks h)) tt f
 
 named-found : (ts : List Trial) (q : ℕ) → ((i : ℕ) → T (accepted (getD ts i Union.noTrial .outcome)) → i ≡ q) → (ns : List ℕ) (o : Option ℕ)
     → Found (λ i. i ≡ q) (Union.namedVariant ts ns o)
-unfolding Union.namedVariant
+unfolding Union.namedVariant Union.takes
 named-found ts q h ns none = tt
 named-found ts q h [] (some k) = tt
 named-found ts q h (i ∷ ns) (some k) = go (eqb (getD ts i Union.noTrial .base) k) (accepted (getD ts i Union.noTrial .outcome)) refl (named-found ts q h ns (some k))
@@ -586,7 +586,7 @@ named-found ts q h (i ∷ ns) (some k) = go (eqb (getD ts i Union.noTrial .base)
 find-other : (ts : List Trial) (ks : List (ℕ × ℕ)) (ns : List ℕ) (z q count k : ℕ) → T (not (eqb k Kind.Null)) → T (onlyNullLeadsTo z ks) → T (kindsSound count 0 ks)
     → ((p : ℕ) → T (not (eqb p z)) → p < count → p ≡ q) → ((i : ℕ) → T (accepted (getD ts i Union.noTrial .outcome)) → i ≡ q)
     → Union.firstThatResolves ts ≡ some q → Union.find-schema-with-known-schemata ts ks ns k ≡ some q
-unfolding Union.find-schema-with-known-schemata Union.unnamedVariant
+unfolding Union.find-schema-with-known-schemata Union.unnamedVariant Union.takeVariant Union.tableLookup
 find-other ts ks ns z q count k n h s two only f =
     choose-is ts (Union.unnamedVariant ts ks (Union.unnamedKind k)) (Union.namedVariant ts ns (Union.namedKind k)) q
     (go (Union.unnamedKind k) (unnamed-other k n)) (named-found ts q only ns (Union.namedKind k)) f

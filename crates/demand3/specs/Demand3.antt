@@ -1,16 +1,16 @@
 -- Demand 3: nullable pairs, what it is to fit, to meet and to be alike, and the three claims, as document 01 has them under "What demand 3 means".
-use Prim.Native.Nat.{ℕ, zero, suc, _≤_}
+use Prim.Native.Nat.{ℕ, zero, suc}
 use mathlib.Core.Path.{_≡_}
 use mathlib.Core.List.{List, [], _∷_}
 use mathlib.Core.Option.{Option, none, some}
 use mathlib.Core.Bool.{Bool, true, false, _&&_, _||_, not, Bool·beq}
 use lib.Dec.{T, leb, eqb}
-use lib.ListN.{length}
-use Rattle.base.specs.Base.{if_then_else_, Result, ok, no, after}
+use lib.ListN.{length, take}
+use Rattle.base.specs.Base.{if_then_else_, Result, ok, after}
 use Rattle.number.specs.Number.{allBytes}
 use Rattle.text.specs.Text.{Text, same}
 use Rattle.frame.specs.Kind
-use Rattle.frame.specs.Tree.{Value, Values, Entries, Schema, Fields, Variants, UuidForm, noItems, item, noEntries, entry, noFields, field, noVariants, variant, kindOf, is, index, octets, items, entries, peel, schemaKind}
+use Rattle.frame.specs.Tree.{Value, Values, Entries, Schema, Fields, Variants, noItems, item, noEntries, entry, noFields, field, noVariants, variant, is, index, octets, items, entries, peel, schemaKind}
 use Rattle.frame.specs.ValueFrame.{decodeValue}
 use Rattle.frame.specs.SchemaFrame.{decodeSchema}
 use Rattle.frame.specs.Sound.{keysRise}
@@ -251,21 +251,32 @@ Fits =
     (schema value result : List ℕ) (a : Accepted schema value result)
     → (r : Value) × (decodeValue result ≡ some r) × T (fits (a .tree) r)
 
--- a call after another, each with the last result as its record: the lengths of the result buffer and the workspace of each
-unfoldable pub repeats : List ℕ → List (ℕ × ℕ) → List ℕ → Result (List ℕ)
-repeats schema [] result = ok result
-repeats schema (c ∷ cs) result = after (answer schema result (c .0) (c .1)) (λ next. repeats schema cs next)
+-- what the result buffer and the workspace of a call hold before it
+pub record Call : Type 0 where
+  pub buffer : List ℕ
+  pub workspace : List ℕ
+
+-- the result as it stands in its buffer, if the call is accepted
+unfoldable pub standing : Result (List ℕ) → List ℕ → Result (List ℕ)
+standing (ok r) buffer = ok (take (length r) (bufferAfter (ok r) buffer))
+standing (no n) buffer = no n
+
+-- a call after another, each with the last result, where it stands, as its record
+unfoldable pub repeats : List ℕ → List Call → List ℕ → Result (List ℕ)
+repeats schema [] last = ok last
+repeats schema (c ∷ cs) last =
+    after (standing (answer schema last (length (c .buffer)) (length (c .workspace))) (c .buffer)) (λ next. repeats schema cs next)
 
 -- every buffer is long enough and every workspace passes 1
-unfoldable pub longEnough : List ℕ → List (ℕ × ℕ) → Bool
+unfoldable pub longEnough : List ℕ → List Call → Bool
 longEnough result [] = true
-longEnough result (c ∷ cs) = leb (length result) (c .0) && leb workspaceSize (c .1) && longEnough result cs
+longEnough result (c ∷ cs) = leb (length result) (length (c .buffer)) && leb workspaceSize (length (c .workspace)) && longEnough result cs
 
--- however often it is repeated, the result is the same
+-- however often it is repeated, and whatever the buffers hold, the result is the same
 unfoldable pub Repeats : Type 0
 Repeats =
     (schema value result : List ℕ) → Accepted schema value result
-    → (calls : List (ℕ × ℕ)) → T (longEnough result calls) → repeats schema calls result ≡ ok result
+    → (calls : List Call) → T (longEnough result calls) → repeats schema calls result ≡ ok result
 
 -- two value frames that are alike (document 01's term): neither stopped by 5, and equal once stripped
 pub record AreAlike (schema : Schema) (a b : List ℕ) : Type 0 where

@@ -3,7 +3,7 @@ use Prim.Native.Nat.{ℕ, zero, suc, _^_, _<_}
 use mathlib.Core.Path.{_≡_, refl, ap, subst}
 use mathlib.Core.List.{List, [], _∷_}
 use mathlib.Core.Option.{Option, none, some}
-use mathlib.Core.Bool.{Bool, true, false, _&&_, _||_, not}
+use mathlib.Core.Bool.{Bool, true, false, _&&_, not}
 use lib.Dec.{T, leb, ltb, eqb, lt→ltb, leb→le}
 use lib.ListN.{length}
 use lib.Seq.{length-take-le}
@@ -18,7 +18,7 @@ use Rattle.frame.specs.Kind
 use Rattle.frame.specs.Tree.{Value, Schema, Fields, Variants, noFields, field, noVariants, variant}
 use Rattle.frame.specs.Readers.{readFlag, readMany, readList, readOption, whole}
 use Rattle.frame.specs.ValueFrame.{Content, wide, flag, counted, text, plain, array, map, union, entries, symbol, unknown, content, itemsOf, entriesOf, readEntry, readContent, readValue, decodeValue, countItems, countEntries}
-use Rattle.frame.specs.SchemaFrame.{fieldsOf, variantsOf, readField, readLead, readUuidForm, readSchemaContent, readSchema, decodeSchema}
+use Rattle.frame.specs.SchemaFrame.{fieldsOf, variantsOf, readField, readLead, readUuidForm, readSymbols, bare, readSchemaContent, readSchema, decodeSchema}
 use Rattle.frame.specs.Sound.{countVariants}
 use Rattle.frame.proofs.ReadBack.{count-items, count-entries}
 use Rattle.frame.proofs.SchemaNodes.{count-variants}
@@ -173,9 +173,6 @@ abbrev pub Under : ℕ → (ℕ → Type 0) → Type 0
 Under zero P = ⊥
 Under (suc d) P = P d
 
-abbrev pub plainKind : ℕ → Bool
-plainKind k = leb k Kind.String || (leb Kind.Date k && leb k Kind.LocalTimestampNanos)
-
 abbrev pub HeldDefault : Option Value → Type 0
 HeldDefault none = Unit
 HeldDefault (some v) = T (held v 16)
@@ -191,7 +188,7 @@ countFields (field n d s fs) = suc (countFields fs)
 -- at most d deep, with every name, symbol, count and default in range
 abbrev mutual
   pub HeldSchema : Schema → ℕ → Type 0
-  HeldSchema (Schema.Plain k) d = Under d (λ e. T (plainKind k))
+  HeldSchema (Schema.Plain k) d = Under d (λ e. T (bare k))
   HeldSchema (Schema.Fixed n) d = Under d (λ e. Unit)
   HeldSchema (Schema.Decimal p s n) d = Under d (λ e. Unit)
   HeldSchema (Schema.Uuid f) d = Under d (λ e. Unit)
@@ -254,6 +251,13 @@ uuid-got s h =
     λ _. got-if _ (eqb f 1) _ _ (λ _. (tt, q))
     λ _. got-if _ (eqb f 2) _ _ (λ _. got-bind _ _ (readNumber 2 r) _ (any-number 2 r q) λ n t w u. (tt, u)) (λ _. tt)
 
+symbols-got : (s : List ℕ) → T (allBytes s) → Got (λ e. Each (λ t. T (textHeld t)) (e .0) × T (ltb (length (e .0)) 65536) × HeldText (e .1)) (readSymbols s)
+unfolding readSymbols
+symbols-got s h =
+    got-bind _ _ (readList readText s) _ (list-got _ readText text-got s h)
+    λ ss r p q. got-bind _ _ (readOption readText r) _ (option-got HeldText readText tt text-got r q)
+    λ t u w x. ((p .0, p .1, w), x)
+
 module _ (node : List ℕ → Read Schema) (d : ℕ) (g : (s : List ℕ) → T (allBytes s) → Got (λ t. HeldSchema t d) (node s)) where
   field-got : (s : List ℕ) → T (allBytes s) → Got (FieldHeld d) (readField node s)
   unfolding readField
@@ -265,7 +269,7 @@ module _ (node : List ℕ → Read Schema) (d : ℕ) (g : (s : List ℕ) → T (
   schema-content-got : (k : ℕ) (s : List ℕ) → T (allBytes s) → Got (λ t. HeldSchema t (suc d)) (readSchemaContent node k s)
   unfolding readSchemaContent
   schema-content-got k s h =
-      got-if _ (plainKind k) _ _ (λ t. (t, h))
+      got-if _ (bare k) _ _ (λ t. (t, h))
       λ _. got-if _ (eqb k Kind.Array) _ _ (λ _. got-bind _ _ (node s) _ (g s h) λ i r p q. (p, q))
       λ _. got-if _ (eqb k Kind.Map) _ _ (λ _. got-bind _ _ (node s) _ (g s h) λ i r p q. (p, q))
       λ _. got-if _ (eqb k Kind.Union) _ _
@@ -276,10 +280,7 @@ module _ (node : List ℕ → Read Schema) (d : ℕ) (g : (s : List ℕ) → T (
       λ _. got-if _ (eqb k Kind.Record) _ _
       (λ _. got-bind _ _ (readList (readField node) s) _ (list-got _ (readField node) field-got s h)
       λ fs r p q. ((rw (count-fields fs) (p .1), fields-of d fs (p .0)), q))
-      λ _. got-if _ (eqb k Kind.Enum) _ _
-      (λ _. got-bind _ _ (readList readText s) _ (list-got _ readText text-got s h)
-      λ ss r p q. got-bind _ _ (readOption readText r) _ (option-got HeldText readText tt text-got r q)
-      λ t u w x. ((p .0, p .1, w), x))
+      λ _. got-if _ (eqb k Kind.Enum) _ _ (λ _. got-bind _ _ (readSymbols s) _ (symbols-got s h) λ e r p q. (p, q))
       λ _. got-if _ (eqb k Kind.Fixed) _ _ (λ _. got-bind _ _ (readNumber 2 s) _ (any-number 2 s h) λ n r p q. (tt, q))
       λ _. got-if _ (eqb k Kind.Decimal) _ _
       (λ _. got-bind _ _ (readNumber 4 s) _ (any-number 4 s h)

@@ -2,7 +2,7 @@
 use Prim.Native.Nat.{ℕ, zero, suc}
 use mathlib.Core.List.{List, [], _∷_}
 use mathlib.Core.Option.{Option, none, some}
-use mathlib.Core.Bool.{Bool, true, false, _&&_, _||_}
+use mathlib.Core.Bool.{Bool, _&&_, _||_}
 use lib.Dec.{leb, eqb}
 use Rattle.base.specs.Base.{if_then_else_}
 use Rattle.text.specs.Text.{Text}
@@ -46,10 +46,21 @@ readUuidForm s = do
         some (UuidForm.fixed n, t)) else
       none
 
+-- symbols, flag, and the default if 01
+unfoldable pub readSymbols : List ℕ → Read (List Text × Option Text)
+readSymbols s = do
+  (ss, r) ← readList readText s
+  (d, t) ← readOption readText r
+  some ((ss, d), t)
+
+-- a kind without content, whose node is its kind byte alone
+abbrev pub bare : ℕ → Bool
+bare k = leb k Kind.String || (leb Kind.Date k && leb k Kind.LocalTimestampNanos)
+
 -- the content of a schema node of kind k, its children read by `node`
 unfoldable pub readSchemaContent : (List ℕ → Read Schema) → ℕ → List ℕ → Read Schema
 readSchemaContent node k s =
-    if leb k Kind.String || (leb Kind.Date k && leb k Kind.LocalTimestampNanos) then some (Schema.Plain k, s) else
+    if bare k then some (Schema.Plain k, s) else
     if eqb k Kind.Array then (do
       (i, r) ← node s
       some (Schema.Array i, r)) else
@@ -65,9 +76,8 @@ readSchemaContent node k s =
       (fs, r) ← readList (readField node) s
       some (Schema.Record (fieldsOf fs), r)) else
     if eqb k Kind.Enum then (do
-      (ss, r) ← readList readText s
-      (d, t) ← readOption readText r
-      some (Schema.Enum ss d, t)) else
+      (e, r) ← readSymbols s
+      some (Schema.Enum (e .0) (e .1), r)) else
     if eqb k Kind.Fixed then (do
       (n, r) ← readNumber 2 s
       some (Schema.Fixed n, r)) else

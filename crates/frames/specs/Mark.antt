@@ -1,7 +1,6 @@
 -- The marks of the list: `+` for a sound frame, else the number that stops it.
 use Prim.Native.Nat.{ℕ}
 use mathlib.Core.List.{List}
-use mathlib.Core.Bool.{true, false}
 use lib.Dec.{eqb}
 use Rattle.base.specs.Base.{if_then_else_}
 use Rattle.frame.specs.Checks.{schemaVerdict, valueVerdict}

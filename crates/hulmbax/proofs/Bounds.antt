@@ -16,7 +16,7 @@ use Rattle.frame.specs.Sound.{keysRise, schemaSound}
 use Rattle.avro.specs.Resolve.{resolve}
 use Rattle.avro.specs.Defaults.{defaultsShort}
 use Rattle.avro.proofs.Refusals.{refusal-resolve}
-use Rattle.hulmbax.specs.Answer.{answer, checkedSchema, checkedValue, written, workspaceSize}
+use Rattle.hulmbax.specs.Answer.{answer, answerFor, checkedSchema, checkedValue, checkedResult, workspaceSize}
 
 abbrev Low : {A : Type 0} → Result A → Type 0
 Low (ok a) = Unit
@@ -57,9 +57,9 @@ low-resolve t w = go (resolve t w) (λ n e. refusal-resolve t w n e)
     go (ok y) f = tt
     go (no n) f = omega (arith, f n refl)
 
-small-written : (len : ℕ) (b : List ℕ) → Small (written len b)
-unfolding written
-small-written len b = go (ltb 65535 (length b)) (ltb len (length b)) refl
+small-checkedResult : (len : ℕ) (b : List ℕ) → Small (checkedResult len b)
+unfolding checkedResult
+small-checkedResult len b = go (ltb 65535 (length b)) (ltb len (length b)) refl
   where
     go : (x y : Bool) → ltb 65535 (length b) ≡ x → Small (if x || y then no 18 else ok b)
     go true y e = omega arith
@@ -70,12 +70,12 @@ pub answer-small : (s v : List ℕ) (len work : ℕ) → Small (answer s v len w
 unfolding answer
 answer-small s v len work = go (ltb work workspaceSize)
   where
-    go : (b : Bool) → Small (if b then no 1 else after (checkedSchema (decodeSchema s)) (λ t. after (checkedValue (decodeValue v)) (λ w. after (resolve t w) (λ x. written len (encodeValue x)))))
+    go : (b : Bool) → Small (if b then no 1 else answerFor s v len)
     go true = omega arith
     go false =
         small-after (checkedSchema (decodeSchema s)) _ (low-schema (decodeSchema s))
         λ t. small-after (checkedValue (decodeValue v)) _ (low-value (decodeValue v))
-        λ w. small-after (resolve t w) _ (low-resolve t w) λ x. small-written len (encodeValue x)
+        λ w. small-after (resolve t w) _ (low-resolve t w) λ x. small-checkedResult len (encodeValue x)
 
 pub answer-refusal-small : (s v : List ℕ) (len work n : ℕ) → answer s v len work ≡ no n → n ≤ 18
 answer-refusal-small s v len work n e = subst (λ (x : Result (List ℕ)). Small x) e (answer-small s v len work)

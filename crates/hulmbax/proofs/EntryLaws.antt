@@ -29,7 +29,7 @@ use Rattle.avro.specs.Defaults.{defaultsShort}
 use Rattle.resolution.specs.Contract.{Ready, nodeBytes}
 use Rattle.resolution.specs.Shortness.{SoundRead, testRead}
 use Rattle.avro.proofs.Refusals.{refusal-resolve}
-use Rattle.hulmbax.specs.Answer.{answer, bufferAfter, workspaceAfter, checkedSchema, checkedValue, written, workspaceSize}
+use Rattle.hulmbax.specs.Answer.{answer, answerFor, bufferAfter, workspaceAfter, checkedSchema, checkedValue, checkedResult, workspaceSize}
 use Rattle.hulmbax.specs.Entry.{Passed, resolvedOf, stopOf}
 use Rattle.hulmbax.specs.declared.Resolved.{Resolved}
 
@@ -206,65 +206,61 @@ module _ (s v : List ℕ) (p : Passed s v) where
   unfolding onBoth nodeBytes
   outcome-is = rw (schema-reads .1, value-reads .1)
 
--- what the entry gives for frames
-abbrev pub chain : List ℕ → List ℕ → ℕ → Result (List ℕ)
-chain s v n = after (checkedSchema (decodeSchema s)) (λ t. after (checkedValue (decodeValue v)) (λ w. after (resolve t w) (λ x. written n (encodeValue x))))
-
 module _ (s v : List ℕ) (p : Passed s v) (len : ℕ) where
-  chain-is : chain s v len ≡ after (resolve (p .tree) (p .value)) (λ x. written len (encodeValue x))
+  answerFor-is : answerFor s v len ≡ after (resolve (p .tree) (p .value)) (λ x. checkedResult len (encodeValue x))
   unfolding after
-  chain-is = rw (p .schema-is, p .value-is)
+  answerFor-is = rw (p .schema-is, p .value-is)
 
-  pub chain-refused : (o : List ℕ) (e : ℕ) → Wrote (onBoth nodeBytes (readSchema 16 s) (readValue 16 v)) o (Refused e) → chain s v len ≡ no e
+  pub answerFor-refused : (o : List ℕ) (e : ℕ) → Wrote (onBoth nodeBytes (readSchema 16 s) (readValue 16 v)) o (Refused e) → answerFor s v len ≡ no e
   unfolding Wrote encoded after
-  chain-refused o e w = chain-is ∙ go (resolve (p .tree) (p .value)) (rw (outcome-is s v p) at w)
+  answerFor-refused o e w = answerFor-is ∙ go (resolve (p .tree) (p .value)) (rw (outcome-is s v p) at w)
     where
-      go : (x : Result Value) → Wrote (encoded x) o (Refused e) → after x (λ y. written len (encodeValue y)) ≡ no e
+      go : (x : Result Value) → Wrote (encoded x) o (Refused e) → after x (λ y. checkedResult len (encodeValue y)) ≡ no e
       go (ok y) w = absurd w
       go (no k) w = ap (λ (j : ℕ). no j) (sym w)
 
   module _ (o : List ℕ) (n : ℕ) (w : Wrote (onBoth nodeBytes (readSchema 16 s) (readValue 16 v)) o (Accepted n)) where
-    made : (x : Value) × (chain s v len ≡ written len (encodeValue x)) × Built (encodeValue x) o n
+    made : (x : Value) × (answerFor s v len ≡ checkedResult len (encodeValue x)) × Built (encodeValue x) o n
     unfolding Wrote encoded after
-    made = go (resolve (p .tree) (p .value)) chain-is (rw (outcome-is s v p) at w)
+    made = go (resolve (p .tree) (p .value)) answerFor-is (rw (outcome-is s v p) at w)
       where
-        go : (x : Result Value) → chain s v len ≡ after x (λ y. written len (encodeValue y)) → Wrote (encoded x) o (Accepted n)
-            → (x : Value) × (chain s v len ≡ written len (encodeValue x)) × Built (encodeValue x) o n
+        go : (x : Result Value) → answerFor s v len ≡ after x (λ y. checkedResult len (encodeValue y)) → Wrote (encoded x) o (Accepted n)
+            → (x : Value) × (answerFor s v len ≡ checkedResult len (encodeValue x)) × Built (encodeValue x) o n
         go (ok y) q w = (y, q, w)
         go (no k) q w = absurd w
 
-    written-over : (b : List ℕ) → 65535 < length b → written len b ≡ no 18
-    unfolding written
-    written-over b h = rw (is-true (ltb 65535 (length b)) (lt→ltb 65535 (length b) h))
+    checkedResult-over : (b : List ℕ) → 65535 < length b → checkedResult len b ≡ no 18
+    unfolding checkedResult
+    checkedResult-over b h = rw (is-true (ltb 65535 (length b)) (lt→ltb 65535 (length b) h))
 
-    written-short : (b : List ℕ) → length b ≤ 65535 → len < length b → written len b ≡ no 18
-    unfolding written
-    written-short b h k = rw (is-false (ltb 65535 (length b)) (le→nltb 65535 (length b) h), is-true (ltb len (length b)) (lt→ltb len (length b) k))
+    checkedResult-short : (b : List ℕ) → length b ≤ 65535 → len < length b → checkedResult len b ≡ no 18
+    unfolding checkedResult
+    checkedResult-short b h k = rw (is-false (ltb 65535 (length b)) (le→nltb 65535 (length b) h), is-true (ltb len (length b)) (lt→ltb len (length b) k))
 
-    written-fits : (b : List ℕ) → length b ≤ 65535 → length b ≤ len → written len b ≡ ok b
-    unfolding written
-    written-fits b h k = rw (is-false (ltb 65535 (length b)) (le→nltb 65535 (length b) h), is-false (ltb len (length b)) (le→nltb len (length b) k))
+    checkedResult-fits : (b : List ℕ) → length b ≤ 65535 → length b ≤ len → checkedResult len b ≡ ok b
+    unfolding checkedResult
+    checkedResult-fits b h k = rw (is-false (ltb 65535 (length b)) (le→nltb 65535 (length b) h), is-false (ltb len (length b)) (le→nltb len (length b) k))
 
-    pub chain-over : 65535 < n → chain s v len ≡ no 18
+    pub answerFor-over : 65535 < n → answerFor s v len ≡ no 18
     unfolding Built
-    chain-over h = made .1 ∙ written-over (encodeValue (made .0)) (omega (arith, made .2 .0))
+    answerFor-over h = made .1 ∙ checkedResult-over (encodeValue (made .0)) (omega (arith, made .2 .0))
 
-    pub chain-short : n ≤ 65535 → len < n → chain s v len ≡ no 18
+    pub answerFor-short : n ≤ 65535 → len < n → answerFor s v len ≡ no 18
     unfolding Built
-    chain-short h k = made .1 ∙ written-short (encodeValue (made .0)) (omega (arith, made .2 .0)) (omega (arith, made .2 .0))
+    answerFor-short h k = made .1 ∙ checkedResult-short (encodeValue (made .0)) (omega (arith, made .2 .0)) (omega (arith, made .2 .0))
 
-    pub chain-fits : n ≤ 65535 → n ≤ len → length o ≡ 65536 → (chain s v len ≡ ok (take n o)) × (length (take n o) ≡ n)
+    pub answerFor-fits : n ≤ 65535 → n ≤ len → length o ≡ 65536 → (answerFor s v len ≡ ok (take n o)) × (length (take n o) ≡ n)
     unfolding Built
-    chain-fits h k l =
+    answerFor-fits h k l =
         let b = encodeValue (made .0) in
         let e : length b ≡ n = omega (arith, made .2 .0) in
         let t : take n o ≡ b = ap (λ (j : ℕ). take j o) (sym e) ∙ made .2 .1 (omega arith) (omega arith) in
-        (made .1 ∙ written-fits b (omega arith) (omega arith) ∙ ap (λ (x : List ℕ). ok x) (sym t), length-take-le n o (omega arith))
+        (made .1 ∙ checkedResult-fits b (omega arith) (omega arith) ∙ ap (λ (x : List ℕ). ok x) (sym t), length-take-le n o (omega arith))
 
 -- ---- the entry behind 1
 
 -- the answer for a workspace that is long enough
-pub answer-is : (s v : List ℕ) (len work : ℕ) → workspaceSize ≤ work → answer s v len work ≡ chain s v len
+pub answer-is : (s v : List ℕ) (len work : ℕ) → workspaceSize ≤ work → answer s v len work ≡ answerFor s v len
 unfolding answer
 answer-is s v len work h = rw (is-false (ltb work workspaceSize) (le→nltb work workspaceSize h))
 
@@ -302,27 +298,23 @@ module _ (s v : List ℕ) where
       record { tree = t .0; value = w .0; schema-is = t .1; value-is = w .1 }
 
   pub stopped-schema : (o : List ℕ) (n : ℕ) → n ≡ stopOf (checkedSchema (decodeSchema s)) → (n ≡ 0 → ⊥)
-      → (Resolved.Refused n ≡ resolvedOf (answer s v (length o) 65536)) × (o ≡ bufferAfter (answer s v (length o) 65536) o)
+      → (Resolved.Refused n ≡ resolvedOf (answerFor s v (length o))) × (o ≡ bufferAfter (answerFor s v (length o)) o)
   unfolding resolvedOf bufferAfter after
-  stopped-schema o n e f = rw (answer-is s v (length o) 65536 (omega arith), stops (checkedSchema (decodeSchema s)) n e f) (refl, refl)
+  stopped-schema o n e f = rw (stops (checkedSchema (decodeSchema s)) n e f) (refl, refl)
 
   pub stopped-value : (o : List ℕ) (n m : ℕ) → n ≡ stopOf (checkedSchema (decodeSchema s)) → n ≡ 0 → m ≡ stopOf (checkedValue (decodeValue v)) → (m ≡ 0 → ⊥)
-      → (Resolved.Refused m ≡ resolvedOf (answer s v (length o) 65536)) × (o ≡ bufferAfter (answer s v (length o) 65536) o)
+      → (Resolved.Refused m ≡ resolvedOf (answerFor s v (length o))) × (o ≡ bufferAfter (answerFor s v (length o)) o)
   unfolding resolvedOf bufferAfter after
   stopped-value o n m e z f g =
       let t : (t : Schema) × (checkedSchema (decodeSchema s) ≡ ok t) = schema-never-0 (decodeSchema s) (sym z ∙ e) in
-      rw (answer-is s v (length o) 65536 (omega arith), t .1, stops (checkedValue (decodeValue v)) m f g) (refl, refl)
-
-  pub not-stopped : (o o' : List ℕ) (r : Resolved) → (r ≡ resolvedOf (chain s v (length o))) × (o' ≡ bufferAfter (chain s v (length o)) o)
-      → (r ≡ resolvedOf (answer s v (length o) 65536)) × (o' ≡ bufferAfter (answer s v (length o) 65536) o)
-  not-stopped o o' r p = rw (answer-is s v (length o) 65536 (omega arith)) p
+      rw (t .1, stops (checkedValue (decodeValue v)) m f g) (refl, refl)
 
 -- an accepted result that fits is copied into the result buffer
 pub handed : (s v : List ℕ) (p : Passed s v) (o o' w : List ℕ) (n : ℕ) → Wrote (onBoth nodeBytes (readSchema 16 s) (readValue 16 v)) w (Accepted n) → n ≤ 65535 → n ≤ length o
-    → length w ≡ 65536 → o' ≡ take n w ++ drop (length (take n w)) o → (Resolved.Accepted n ≡ resolvedOf (chain s v (length o))) × (o' ≡ bufferAfter (chain s v (length o)) o)
+    → length w ≡ 65536 → o' ≡ take n w ++ drop (length (take n w)) o → (Resolved.Accepted n ≡ resolvedOf (answerFor s v (length o))) × (o' ≡ bufferAfter (answerFor s v (length o)) o)
 unfolding resolvedOf bufferAfter
 handed s v p o o' w n a h k l e =
-    let f : (chain s v (length o) ≡ ok (take n w)) × (length (take n w) ≡ n) = chain-fits s v p (length o) w n a h k l in
+    let f : (answerFor s v (length o) ≡ ok (take n w)) × (length (take n w) ≡ n) = answerFor-fits s v p (length o) w n a h k l in
     rw (f .0) (ap (λ (j : ℕ). Resolved.Accepted j) (sym (f .1)), e)
 
 -- ---- the workspace
@@ -372,19 +364,19 @@ resolve-not-1 t w = go (resolve t w) (λ n e. refusal-resolve t w n e)
     go (ok y) f = tt
     go (no n) f = λ e. omega (arith, f n refl)
 
-written-not-1 : (len : ℕ) (b : List ℕ) → NotOne (written len b)
-unfolding written
-written-not-1 len b = go (ltb 65535 (length b) || ltb len (length b))
+checkedResult-not-1 : (len : ℕ) (b : List ℕ) → NotOne (checkedResult len b)
+unfolding checkedResult
+checkedResult-not-1 len b = go (ltb 65535 (length b) || ltb len (length b))
   where
     go : (a : Bool) → NotOne (if a then no 18 else ok b)
     go true = λ e. omega arith
     go false = tt
 
-chain-not-1 : (s v : List ℕ) (len : ℕ) → chain s v len ≡ no 1 → ⊥
-chain-not-1 s v len e = go (chain s v len) e
+answerFor-not-1 : (s v : List ℕ) (len : ℕ) → answerFor s v len ≡ no 1 → ⊥
+answerFor-not-1 s v len e = go (answerFor s v len) e
     (after-not-1 (checkedSchema (decodeSchema s)) _ (schema-not-1 (decodeSchema s))
     λ t. after-not-1 (checkedValue (decodeValue v)) _ (value-not-1 (decodeValue v))
-    λ w. after-not-1 (resolve t w) _ (resolve-not-1 t w) λ x. written-not-1 len (encodeValue x))
+    λ w. after-not-1 (resolve t w) _ (resolve-not-1 t w) λ x. checkedResult-not-1 len (encodeValue x))
   where
     go : (x : Result (List ℕ)) → x ≡ no 1 → NotOne x → ⊥
     go (ok r) e f = let z : _≡_ {A = ℕ} 0 1 = cc in omega arith
@@ -401,15 +393,13 @@ zeroed (no n) w f = go (eqb n 1) refl
     go false e = refl
 
 pub cleared : (s v o o' w y z : List ℕ) (r : Resolved) → 65536 ≤ length w → length y ≡ length (take 65536 w) → z ≡ replicate (length (take 65536 (y ++ drop 65536 w))) 0
-    → (r ≡ resolvedOf (answer s v (length o) 65536)) × (o' ≡ bufferAfter (answer s v (length o) 65536) o)
+    → (r ≡ resolvedOf (answerFor s v (length o))) × (o' ≡ bufferAfter (answerFor s v (length o)) o)
     → (r ≡ resolvedOf (answer s v (length o) (length w))) × ((o' ≡ bufferAfter (answer s v (length o) (length w)) o)
     × (z ++ drop 65536 (y ++ drop 65536 w) ≡ workspaceAfter (answer s v (length o) (length w)) w))
 cleared s v o o' w y z r h l e p =
     let ly : length y ≡ 65536 = l ∙ length-take-le 65536 w h in
-    let a : answer s v (length o) (length w) ≡ chain s v (length o) = answer-is s v (length o) (length w) h in
-    let b : answer s v (length o) 65536 ≡ chain s v (length o) = answer-is s v (length o) 65536 (omega arith) in
+    let a : answer s v (length o) (length w) ≡ answerFor s v (length o) = answer-is s v (length o) (length w) h in
     let t : take 65536 (y ++ drop 65536 w) ≡ y = take-at y (drop 65536 w) 65536 ly in
     let d : drop 65536 (y ++ drop 65536 w) ≡ drop 65536 w = drop-at y (drop 65536 w) 65536 ly in
-    let q : (r ≡ resolvedOf (chain s v (length o))) × (o' ≡ bufferAfter (chain s v (length o)) o) = rw b at p in
     let n : z ≡ replicate 65536 0 = e ∙ ap (λ (x : List ℕ). replicate (length x) 0) t ∙ ap (λ (j : ℕ). replicate j 0) ly in
-    rw a (q .0, (q .1, ap (λ (x : List ℕ). x ++ drop 65536 (y ++ drop 65536 w)) n ∙ ap (λ (x : List ℕ). replicate 65536 0 ++ x) d ∙ sym (zeroed (chain s v (length o)) w (chain-not-1 s v (length o)))))
+    rw a (p .0, (p .1, ap (λ (x : List ℕ). x ++ drop 65536 (y ++ drop 65536 w)) n ∙ ap (λ (x : List ℕ). replicate 65536 0 ++ x) d ∙ sym (zeroed (answerFor s v (length o)) w (answerFor-not-1 s v (length o)))))

@@ -2,14 +2,11 @@
 use buffer::Answer;
 use frame::Verdict;
 ghost use mathlib.Core.Path.{_≡_};
-ghost use mathlib.Core.List.{_++_};
-ghost use Prim.Native.Nat.{_+_, _-_, _≤_};
-ghost use lib.ListN.{drop, length, replicate};
-ghost use Rattle.base.specs.Base.{after};
-ghost use Rattle.frame.specs.ValueFrame.{decodeValue, encodeValue};
+ghost use Prim.Native.Nat.{_-_};
+ghost use lib.ListN.{length};
+ghost use Rattle.frame.specs.ValueFrame.{decodeValue};
 ghost use Rattle.frame.specs.SchemaFrame.{decodeSchema};
-ghost use Rattle.avro.specs.Resolve;
-ghost use Rattle.hulmbax.specs.Answer.{answer, bufferAfter, checkedSchema, checkedValue, workspaceAfter, written};
+ghost use Rattle.hulmbax.specs.Answer.{answer, answerFor, bufferAfter, checkedSchema, checkedValue, workspaceAfter};
 ghost use Rattle.hulmbax.specs.Entry.{Passed, Short, codeOf, resolvedOf, stopOf, usedFor};
 
 // A result of so many bytes, or the number of what stopped the record.
@@ -49,8 +46,8 @@ fn record_stop(record: &[u8]) -> u8
 // Resolves frames that passed their checks into the work slice, and hands over a result that fits.
 fn hand_over(schema: &[u8], record: &[u8], result: &mut [u8], work: &mut [u8]) -> Resolved
     requires { ⌜ Passed (now schema) (now «record») × (length (now work) ≡ 65536) ⌝ }
-    ensures answer { λ r. ⌜ r ≡ resolvedOf (after (checkedSchema (decodeSchema (now (schema .entry)))) (λ t. after (checkedValue (decodeValue (now («record» .entry)))) (λ v. after (Resolve.resolve t v) (λ x. written (length (now (result .entry))) (encodeValue x))))) ⌝ }
-    ensures contents { λ _. ⌜ now (result .exit) ≡ bufferAfter (after (checkedSchema (decodeSchema (now (schema .entry)))) (λ t. after (checkedValue (decodeValue (now («record» .entry)))) (λ v. after (Resolve.resolve t v) (λ x. written (length (now (result .entry))) (encodeValue x))))) (now (result .entry)) ⌝ }
+    ensures answer { λ r. ⌜ r ≡ resolvedOf (answerFor (now (schema .entry)) (now («record» .entry)) (length (now (result .entry)))) ⌝ }
+    ensures contents { λ _. ⌜ now (result .exit) ≡ bufferAfter (answerFor (now (schema .entry)) (now («record» .entry)) (length (now (result .entry)))) (now (result .entry)) ⌝ }
 {
     match resolution::resolve::resolve_node(schema, record, work, 16, 16) {
         Answer::Accepted(n) => {
@@ -70,8 +67,8 @@ fn hand_over(schema: &[u8], record: &[u8], result: &mut [u8], work: &mut [u8]) -
 // All but the workspace, of which the first 65,536 bytes are lent.
 fn resolve_in(schema: &[u8], record: &[u8], result: &mut [u8], work: &mut [u8]) -> Resolved
     requires { ⌜ length (now work) ≡ 65536 ⌝ }
-    ensures answer { λ r. ⌜ r ≡ resolvedOf (answer (now (schema .entry)) (now («record» .entry)) (length (now (result .entry))) 65536) ⌝ }
-    ensures contents { λ _. ⌜ now (result .exit) ≡ bufferAfter (answer (now (schema .entry)) (now («record» .entry)) (length (now (result .entry))) 65536) (now (result .entry)) ⌝ }
+    ensures answer { λ r. ⌜ r ≡ resolvedOf (answerFor (now (schema .entry)) (now («record» .entry)) (length (now (result .entry)))) ⌝ }
+    ensures contents { λ _. ⌜ now (result .exit) ≡ bufferAfter (answerFor (now (schema .entry)) (now («record» .entry)) (length (now (result .entry)))) (now (result .entry)) ⌝ }
 {
     let s = schema_stop(schema, work);
     if s != 0 {
@@ -99,6 +96,7 @@ fn used(r: Resolved) -> usize
     }
 }
 
+// The record's frame brought to the reader schema's: the result and its length, or the number of what stops it.
 pub fn resolve(schema: &[u8], record: &[u8], result: &mut [u8], workspace: &mut [u8]) -> Resolved
     ensures answer { λ r. ⌜ r ≡ resolvedOf (answer (now (schema .entry)) (now («record» .entry)) (length (now (result .entry))) (length (now (workspace .entry)))) ⌝ }
     ensures contents { λ _. ⌜ now (result .exit) ≡ bufferAfter (answer (now (schema .entry)) (now («record» .entry)) (length (now (result .entry))) (length (now (workspace .entry)))) (now (result .entry)) ⌝ }

@@ -1,7 +1,7 @@
 -- Numbers stored high byte first (document 01, "Trees on the heap become frames"), and what a buffer holds after bytes are written at a position.
 use Prim.Native.Nat.{ℕ, zero, suc, _+_, _*_, _/_, _%_, _^_}
 use mathlib.Core.List.{List, [], _∷_, _++_}
-use mathlib.Core.Bool.{Bool, true, false, _&&_}
+use mathlib.Core.Bool.{Bool, true, _&&_}
 use lib.Dec.{ltb}
 use lib.ListN.{length, take, drop}
 

@@ -15,7 +15,7 @@ use Rattle.number.specs.Number.{allBytes, numberAt, bytesOf}
 use Rattle.text.specs.Text.{Text}
 use Rattle.text.specs.Measured.{Reads}
 use Rattle.schema.specs.Parts.{Field}
-use Rattle.frame.specs.Tree.{Value, Entries, Schema, Fields, noEntries, entry, kindOf, entries}
+use Rattle.frame.specs.Tree.{Value, Entries, Schema, Fields, noEntries, entry, kindOf, entries, peel}
 use Rattle.frame.specs.Readers.{readMany}
 use Rattle.frame.specs.ValueFrame.{entriesOf, readEntry, readValue, writeText, countEntries, encodeValue, encodeEntries}
 use Rattle.frame.specs.SchemaFrame.{fieldsOf, readField, readSchema}
@@ -60,7 +60,7 @@ entries-each t (x ∷ xs) = go (resolve t (x .1)) (eachEntry (λ x. resolve t x)
     go (ok r) (ok us) z h = rw (← h)
 
 map-whole : (t : Schema) (xs : List (Text × Value)) (h : List ℕ) → h ≡ 9 ∷ bytesOf 2 (length xs) → peeledBytes (Schema.Map t) (Value.Map (entriesOf xs)) ≡ front h (eachBytes (entryBytes t) xs)
-unfolding peeledBytes resolvePeeled resolve-map kindOf entries
+unfolding peeledBytes resolvePeeled resolve peel resolve-map kindOf entries
 map-whole t xs h e = go (eachEntry (λ x. resolve t x) (entriesOf xs)) refl ∙ ap (front h) (entries-each t xs)
   where
     go : (o : Result Entries) → eachEntry (λ x. resolve t x) (entriesOf xs) ≡ o → encoded (after o (λ vs. ok (Value.Map vs))) ≡ front h (after o (λ ws. ok (encodeEntries ws)))
@@ -68,7 +68,7 @@ map-whole t xs h e = go (eachEntry (λ x. resolve t x) (entriesOf xs)) refl ∙ 
     go (ok ws) q = unfold after encoded encodeValue in rw (e, count-entries (λ x. resolve t x) xs ws q)
 
 map-other : (t : Schema) (w : Value) → (kindOf w ≡ 9 → ⊥) → peeledBytes (Schema.Map t) w ≡ no 6
-unfolding peeledBytes resolvePeeled resolve-map encoded
+unfolding peeledBytes resolvePeeled resolve peel resolve-map encoded
 map-other t w f = rw (ne-eqb (kindOf w) 9 f)
 
 module _ (ds dv : ℕ) (s v : List ℕ) (r : Ready ds s) (pv : Reads (readValue dv v)) (es : getD s 0 0 ≡ 9) (b : T (allBytes v)) where
@@ -152,7 +152,7 @@ fields-each (f ∷ fs) w =
     go (ok r) (ok us) z h = unfold after encoded encodeValue in rw (← h)
 
 record-whole : (fs : List Field) (w : Value) (h : List ℕ) → (kindOf w ≡ 9) ⊎ (kindOf w ≡ 11) → h ≡ 11 ∷ bytesOf 2 (length fs) → peeledBytes (Schema.Record (fieldsOf fs)) w ≡ front h (eachBytes (λ f. fieldBytes f w) fs)
-unfolding peeledBytes resolvePeeled resolve-record
+unfolding peeledBytes resolvePeeled resolve peel resolve-record
 record-whole fs w h k e =
     ⊎-elim (λ p. rw (eq-eqb (kindOf w) 9 p) main) (λ p. rw (eq-eqb (kindOf w) 11 p, ne-eqb (kindOf w) 9 (λ q. omega arith)) main) k
   where
@@ -164,7 +164,7 @@ record-whole fs w h k e =
     main = go (resolveFields (fieldsOf fs) (entries w)) refl ∙ ap (front h) (fields-each fs w)
 
 record-other : (fs : Fields) (w : Value) → (kindOf w ≡ 9 → ⊥) → (kindOf w ≡ 11 → ⊥) → peeledBytes (Schema.Record fs) w ≡ no 6
-unfolding peeledBytes resolvePeeled resolve-record encoded
+unfolding peeledBytes resolvePeeled resolve peel resolve-record encoded
 record-other fs w f g = rw (ne-eqb (kindOf w) 9 f, ne-eqb (kindOf w) 11 g)
 
 module _ (ds : ℕ) (s : List ℕ) (r : Ready ds s) (es : getD s 0 0 ≡ 11) where

@@ -14,17 +14,18 @@ use borrow.Author.Tests.{leb-true, leb-false}
 use Rattle.base.specs.Base.{Result}
 use Rattle.number.specs.Number.{bigEndian, numberAt}
 use Rattle.text.specs.Text.{Text}
-use Rattle.text.specs.Read.{Read, readNumber, readText}
+use Rattle.text.specs.Read.{Read, readNumber}
 use Rattle.text.specs.Measured.{Reads}
 use Rattle.text.proofs.ReadLaws.{readNumber-some, readNumber-none}
-use Rattle.frame.specs.Tree.{Value, Schema, UuidForm}
-use Rattle.frame.specs.Readers.{readList, readOption}
-use Rattle.frame.specs.SchemaFrame.{readSchemaContent, readSchema}
-use Rattle.frame.proofs.Reading.{bind-inv, map-inv, not-reads, option-empty, option-zero, option-one-none, option-one-some, option-other}
+use Rattle.frame.specs.Tree.{Value, Schema, UuidForm, peel}
+use Rattle.frame.specs.Readers.{readOption}
+use Rattle.frame.specs.SchemaFrame.{readSymbols, readSchemaContent, readSchema}
+use Rattle.frame.proofs.Reading.{map-inv, not-reads, option-empty, option-zero, option-one-none, option-one-some, option-other}
 use Rattle.frame.proofs.SchemaNodes.{schema-opened}
 use Rattle.types.specs.Types.{Outcome, resolvePlain, resolve-bytes, resolve-string, resolve-fixed, resolve-decimal, resolve-uuid, resolve-duration}
 use Rattle.types.specs.Contract.{encoded, onRead, onBoth}
 use Rattle.types.specs.Search.{resolveEnumAt}
+use Rattle.avro.specs.Resolve.{resolve}
 use Rattle.schema.proofs.Leaves.{fixed-got, fixed-none, decimal-none, decimal-got, decimal-later, uuid-empty, uuid-bytes, uuid-string, uuid-short, uuid-fixed, uuid-other, duration-got, duration-none, plain-low, plain-high, kind-past}
 use Rattle.resolution.specs.Contract.{Childless, resolvePeeled, peeledBytes}
 
@@ -143,9 +144,8 @@ module _ (d : ℕ) (s : List ℕ) (p : Reads (readSchema d s)) where
     enum-tree : (t : Schema) (r : List ℕ) → readSchema d s ≡ some (t, r) → (ss : List Text) × ((q : Option Text) × (t ≡ Schema.Enum ss q))
     unfolding readSchemaContent
     enum-tree t r g =
-        let i = bind-inv (readList readText (drop 1 s)) _ (t, r) (sym (schema-opened d s p 12 e) ∙ g) in
-        let j = map-inv (λ q. Schema.Enum (i .0 .0) q) (readOption readText (i .0 .1)) t r (i .1 .1) in
-        (i .0 .0, (j .0, j .1 .1))
+        let i = map-inv (λ q. Schema.Enum (q .0) (q .1)) (readSymbols (drop 1 s)) t r (sym (schema-opened d s p 12 e) ∙ g) in
+        (i .0 .0, (i .0 .1, i .1 .1))
 
 -- ---- outcomes
 
@@ -162,7 +162,7 @@ outcome f t r x (some z) e g = rw (e, g (z .0))
 
 module _ (ds : ℕ) (s : List ℕ) (p : Reads (readSchema ds s)) (y : Read Value) where
   kind-outcome : (k : ℕ) → getD s 0 0 ≡ k → k ≤ 24 → (7 < k → 16 ≤ k) → onBoth peeledBytes (readSchema ds s) y ≡ onRead (λ w. encoded (resolvePlain k w)) y
-  unfolding resolvePeeled
+  unfolding resolvePeeled resolve peel
   kind-outcome k e h g = outcome _ _ _ _ y (plain-tree ds s p k e h g) (λ w. refl)
 
   pub bytes-outcome : getD s 0 0 ≡ 6 → onBoth peeledBytes (readSchema ds s) y ≡ onRead (λ w. encoded (resolve-bytes w)) y
@@ -177,37 +177,37 @@ module _ (ds : ℕ) (s : List ℕ) (p : Reads (readSchema ds s)) (y : Read Value
   plain-outcome h g = kind-outcome (getD s 0 0) refl h (λ q. g (omega arith))
 
   pub fixed-outcome : getD s 0 0 ≡ 13 → (n : ℕ) → n ≡ numberAt s 1 2 → onBoth peeledBytes (readSchema ds s) y ≡ onRead (λ w. encoded (resolve-fixed n w)) y
-  unfolding resolvePeeled
+  unfolding resolvePeeled resolve peel
   fixed-outcome e n h = outcome _ _ _ _ y (fixed-tree ds s p e) (λ w. ap (λ m. resolve-fixed m w) (sym h))
 
   pub duration-outcome : getD s 0 0 ≡ 25 → onBoth peeledBytes (readSchema ds s) y ≡ onRead (λ w. encoded (resolve-duration w)) y
-  unfolding resolvePeeled
+  unfolding resolvePeeled resolve peel
   duration-outcome e = outcome _ _ _ _ y (duration-tree ds s p e) (λ w. refl)
 
   module _ (e : getD s 0 0 ≡ 14) (a b : ℕ) (ha : a ≡ numberAt s 1 4) (hb : b ≡ numberAt s 5 4) where
     pub unsized-outcome : (getD s 9 0 ≡ 1 → ⊥) → onBoth peeledBytes (readSchema ds s) y ≡ onRead (λ w. encoded (resolve-decimal a b none w)) y
-    unfolding resolvePeeled
+    unfolding resolvePeeled resolve peel
     unsized-outcome f = outcome _ _ _ _ y (unsized-tree ds s p e f) (λ w. rw (ha, hb))
 
     pub sized-outcome : getD s 9 0 ≡ 1 → (n : ℕ) → n ≡ numberAt s 10 2 → onBoth peeledBytes (readSchema ds s) y ≡ onRead (λ w. encoded (resolve-decimal a b (some n) w)) y
-    unfolding resolvePeeled
+    unfolding resolvePeeled resolve peel
     sized-outcome h n hn = outcome _ _ _ _ y (sized-tree ds s p e h) (λ w. rw (ha, hb, hn))
 
   module _ (e : getD s 0 0 ≡ 15) where
     pub uuid-bytes-outcome : getD s 1 0 ≡ 0 → onBoth peeledBytes (readSchema ds s) y ≡ onRead (λ w. encoded (resolve-uuid UuidForm.bytes w)) y
-    unfolding resolvePeeled
+    unfolding resolvePeeled resolve peel
     uuid-bytes-outcome h = outcome _ _ _ _ y (bytes-tree ds s p e h) (λ w. refl)
 
     pub uuid-string-outcome : getD s 1 0 ≡ 1 → onBoth peeledBytes (readSchema ds s) y ≡ onRead (λ w. encoded (resolve-uuid UuidForm.string w)) y
-    unfolding resolvePeeled
+    unfolding resolvePeeled resolve peel
     uuid-string-outcome h = outcome _ _ _ _ y (string-tree ds s p e h) (λ w. refl)
 
     pub uuid-fixed-outcome : (getD s 1 0 ≡ 0 → ⊥) → (getD s 1 0 ≡ 1 → ⊥) → (n : ℕ) → n ≡ numberAt s 2 2 → onBoth peeledBytes (readSchema ds s) y ≡ onRead (λ w. encoded (resolve-uuid (UuidForm.fixed n) w)) y
-    unfolding resolvePeeled
+    unfolding resolvePeeled resolve peel
     uuid-fixed-outcome f g n h = outcome _ _ _ _ y (uuid-fixed-tree ds s p e f g) (λ w. ap (λ m. resolve-uuid (UuidForm.fixed m) w) (sym h))
 
   pub enum-outcome : getD s 0 0 ≡ 12 → onBoth peeledBytes (readSchema ds s) y ≡ onBoth (λ t w. encoded (resolveEnumAt t w)) (readSchema ds s) y
-  unfolding Reads onBoth onRead resolvePeeled resolveEnumAt
+  unfolding Reads onBoth onRead resolvePeeled resolve peel resolveEnumAt
   enum-outcome e =
       let i = enum-tree ds s p e (p .0) (p .1 .0) (p .1 .1) in
       let q : readSchema ds s ≡ some (Schema.Enum (i .0) (i .1 .0), p .1 .0) = p .1 .1 ∙ ap (λ t. some (t, p .1 .0)) (i .1 .1) in

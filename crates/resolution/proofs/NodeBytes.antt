@@ -35,7 +35,7 @@ use Rattle.resolution.proofs.Pieces.{both-some, onFirst, front, eachByt
 -- ---- peeling
 
 resolve-peel : (t : Schema) (v : Value) → resolve t v ≡ resolvePeeled t (peel v)
-unfolding resolve resolvePeeled resolve-union
+unfolding resolve resolvePeeled resolve-union peel
 resolve-peel (Schema.Plain k) v = refl
 resolve-peel (Schema.Fixed n) v = refl
 resolve-peel (Schema.Decimal p s n) v = refl
@@ -131,7 +131,7 @@ items-each f (x ∷ xs) = go (f x) (eachItem f (itemsOf xs)) (eachBytes (λ v. e
     go (ok r) (ok us) z h = rw (← h)
 
 array-whole : (t : Schema) (xs : List Value) (h : List ℕ) → h ≡ 8 ∷ bytesOf 2 (length xs) → peeledBytes (Schema.Array t) (Value.Array (itemsOf xs)) ≡ front h (eachBytes (nodeBytes t) xs)
-unfolding peeledBytes nodeBytes resolvePeeled resolve-array kindOf items
+unfolding peeledBytes nodeBytes resolvePeeled resolve peel resolve-array kindOf items
 array-whole t xs h e = go (eachItem (λ x. resolve t x) (itemsOf xs)) refl ∙ ap (front h) (items-each (λ x. resolve t x) xs)
   where
     go : (o : Result Values) → eachItem (λ x. resolve t x) (itemsOf xs) ≡ o → encoded (after o (λ vs. ok (Value.Array vs))) ≡ front h (after o (λ ws. ok (encodeItems ws)))
@@ -139,7 +139,7 @@ array-whole t xs h e = go (eachItem (λ x. resolve t x) (itemsOf xs)) refl ∙ a
     go (ok ws) q = unfold after encoded encodeValue in rw (e, count-items (λ x. resolve t x) xs ws q)
 
 array-other : (t : Schema) (w : Value) → (kindOf w ≡ 8 → ⊥) → peeledBytes (Schema.Array t) w ≡ no 6
-unfolding peeledBytes resolvePeeled resolve-array encoded
+unfolding peeledBytes resolvePeeled resolve peel resolve-array encoded
 array-other t w f = rw (ne-eqb (kindOf w) 8 f)
 
 module _ (ds dv : ℕ) (s v : List ℕ) (r : Ready ds s) (pv : Reads (readValue dv v)) (es : getD s 0 0 ≡ 8) (b : T (allBytes v)) where

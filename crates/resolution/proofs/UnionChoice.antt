@@ -12,7 +12,7 @@ use borrow.Author.Tests.{eq-eqb, ne-eqb, lt-ltb, le-ltb, ltb-true, ltb-false, eq
 use Rattle.base.specs.Base.{if_then_else_, ok, no, after, accepted}
 use Rattle.number.specs.Number.{bytesOf}
 use Rattle.frame.specs.Kind
-use Rattle.frame.specs.Tree.{Value, Schema, Variants, kindOf, schemaKind}
+use Rattle.frame.specs.Tree.{Value, Schema, Variants, kindOf, schemaKind, peel}
 use Rattle.frame.specs.ValueFrame.{encodeValue}
 use Rattle.frame.specs.SchemaFrame as frame
 use Rattle.frame.specs.Sound.{schemaSound, variantsSound, kindsSound, positionsSound, countVariants}
@@ -21,11 +21,11 @@ use Rattle.types.specs.Contract.{encoded}
 use Rattle.buffer.specs.Built.{Built, Wrote}
 use Rattle.buffer.specs.declared.Answer.{Answer}
 use Rattle.buffer.specs.declared.Answer.the-variants.{Accepted, Refused}
-use Rattle.avro.specs.Union.{Trial, noTrial, schema-to-base-schemakind, unnamedKind, namedKind, lookupKind, takeVariant, unnamedVariant, namedVariant, firstThatResolves, choose, find-schema-with-known-schemata, inUnion}
+use Rattle.avro.specs.Union.{Trial, noTrial, schema-to-base-schemakind, unnamedKind, namedKind, lookupKind, takeVariant, unnamedVariant, namedVariant, firstThatResolves, choose, find-schema-with-known-schemata, inUnion, mustBeTried, takes, tableLookup, resolve-union}
 use Rattle.avro.specs.Resolve.{resolve, trials}
 use Rattle.avro.specs.Defaults.{defaultsShort, variantDefaultsShort}
-use Rattle.resolution.specs.Contract.{resolvePeeled, peeledBytes, variantsOf, kindTable, namedTable, foundOf}
-use Rattle.resolution.specs.UnionContract.{trialsOf, trialAt, countOf, Tries, FailedAt, isAt, mustBeTried, takes, tableLookup, tableOf, namedOf, Stands, TriedFor, soonerOf, NamedAfter, TableFirst}
+use Rattle.resolution.specs.Contract.{resolvePeeled, peeledBytes, unionVariants, kindTable, namedTable, foundOf}
+use Rattle.resolution.specs.UnionContract.{trialsOf, trialAt, countOf, Tries, FailedAt, isAt, tableOf, namedOf, Stands, TriedFor, soonerOf, NamedAfter, TableFirst}
 use Rattle.find.specs.declared.Found.{Found}
 use Rattle.resolution.specs.declared.Tried.{Tried}
 use Rattle.resolution.specs.declared.Choice.{Choice}
@@ -156,7 +156,7 @@ module _ (ts : List Trial) (i : ℕ) where
   -- ---- the kind table's variant
 
   take-if : takeVariant ts (some i) ≡ (if mustBeTried (getD ts i noTrial .kind) && not (accepted (getD ts i noTrial .outcome)) then none else some i)
-  unfolding takeVariant mustBeTried
+  unfolding takeVariant
   take-if = refl
 
   pub take-accepted : accepted (getD ts i noTrial .outcome) ≡ true → takeVariant ts (some i) ≡ some i
@@ -190,7 +190,7 @@ first-at (t ∷ ts) (suc i) l h e =
 -- ---- the first named one that resolves
 
 named-if : (ts : List Trial) (i : ℕ) (ns : List ℕ) (k : ℕ) → namedVariant ts (i ∷ ns) (some k) ≡ (if takes k ts i then some i else namedVariant ts ns (some k))
-unfolding namedVariant takes
+unfolding namedVariant
 named-if ts i ns k = refl
 
 pub named-none : (ts : List Trial) (ns : List ℕ) (k : ℕ) → ((j : ℕ) → j < length ns → takes k ts (getD ns j 0) ≡ false) → namedVariant ts ns (some k) ≡ none
@@ -257,7 +257,7 @@ unnamed-take ts ks none = refl
 unnamed-take ts ks (some k) = refl
 
 pub peeled-chosen : (t : Schema) (vs : Variants) (ks : List (ℕ × ℕ)) (ns : List ℕ) (w : Value) → t ≡ Schema.Union vs ks ns → peeledBytes t w ≡ encoded (inUnion (trialsOf t w) (chosen t w))
-unfolding peeledBytes resolvePeeled find-schema-with-known-schemata chosen tableOf namedOf variantsOf kindTable namedTable
+unfolding peeledBytes resolvePeeled resolve resolve-union peel find-schema-with-known-schemata chosen tableOf namedOf unionVariants kindTable namedTable
 peeled-chosen t vs ks ns w e =
     let u = Schema.Union vs ks ns in
     let f : peeledBytes u w ≡ encoded (inUnion (trialsOf u w) (chosen u w)) = ap (λ x. encoded (inUnion (trials vs w) (choose (trials vs w) x (namedVariant (trials vs w) ns (namedKind (kindOf w)))))) (unnamed-take (trials vs w) ks (unnamedKind (kindOf w))) in

@@ -24,11 +24,11 @@ use Rattle.buffer.specs.Built.{Built, Wrote}
 use Rattle.buffer.specs.declared.Answer.{Answer}
 use Rattle.buffer.specs.declared.Answer.the-variants.{Accepted, Refused}
 use Rattle.buffer.proofs.BuiltLaws.{tail-back, wrote-refused}
-use Rattle.avro.specs.Union.{Trial, noTrial, unnamedKind, namedKind, takeVariant, namedVariant, firstThatResolves, inUnion}
+use Rattle.avro.specs.Union.{Trial, noTrial, unnamedKind, namedKind, takeVariant, namedVariant, firstThatResolves, inUnion, mustBeTried, takes, tableLookup}
 use Rattle.avro.specs.Resolve.{trials}
 use Rattle.avro.specs.Defaults.{defaultsShort}
-use Rattle.resolution.specs.Contract.{Ready, nodeBytes, peeledBytes, variantBytes, variantsOf, kindTable, namedTable, foundOf, wantedOf}
-use Rattle.resolution.specs.UnionContract.{OnRead, OnBoth, Passed, Numbers, Among, WasNamed, TriedBefore, Tries, FailedAt, NoneYet, isAt, baseRead, trialsOf, trialAt, countOf, mustBeTried, takes, tableLookup, tableOf, namedOf, firstBytes, Stands, TriedFor, soonerOf, NamedAfter, TableFirst}
+use Rattle.resolution.specs.Contract.{Ready, nodeBytes, peeledBytes, variantBytes, kindTable, namedTable, foundOf, wantedOf}
+use Rattle.resolution.specs.UnionContract.{OnRead, OnBoth, Passed, Numbers, Among, WasNamed, TriedBefore, Tries, FailedAt, NoneYet, isAt, baseRead, trialsOf, trialAt, countOf, tableOf, namedOf, firstBytes, Stands, TriedFor, soonerOf, NamedAfter, TableFirst}
 use Rattle.find.specs.declared.Found.{Found}
 use Rattle.resolution.specs.declared.Tried.{Tried}
 use Rattle.resolution.specs.declared.Choice.{Choice}

@@ -20,9 +20,9 @@ use Rattle.frame.specs.SchemaFrame.{readUuidForm, readSchemaContent, readSchema
 use Rattle.frame.proofs.Reading.{read-what, read-rest, not-both, bind-inv, map-inv, reads-some, reads-number, option-zero, option-one, option-long, option-is-one}
 use Rattle.frame.proofs.SchemaNodes.{schema-kind}
 use Rattle.schema.proofs.Leaves.{kind-past}
-use Rattle.avro.specs.Union.{schema-to-base-schemakind, unnamedKind, namedKind}
+use Rattle.avro.specs.Union.{schema-to-base-schemakind, unnamedKind, namedKind, mustBeTried}
 use Rattle.resolution.specs.Contract.{wantedOf}
-use Rattle.resolution.specs.UnionContract.{Among, WasNamed, baseRead, mustBeTried, soonerOf}
+use Rattle.resolution.specs.UnionContract.{Among, WasNamed, baseRead, soonerOf}
 use Rattle.find.specs.declared.Found.{Found}
 use Rattle.resolution.specs.declared.Tried.{Tried}
 use Rattle.resolution.specs.declared.Choice.{Choice}

@@ -25,7 +25,7 @@ use Rattle.frame.proofs.Reading.{read-what, read-rest, not-both, bind-inv, read
 use Rattle.frame.proofs.Counting.{First, many-first, many-none, many-length, list-some}
 use Rattle.frame.proofs.SchemaNodes.{schema-there, schema-opened, count-variants}
 use Rattle.schema.proofs.Tables.{lead-short, lead-got}
-use Rattle.resolution.specs.Contract.{variantsOf, kindTable, namedTable}
+use Rattle.resolution.specs.Contract.{unionVariants, kindTable, namedTable}
 use Rattle.resolution.specs.UnionContract.{OnRead, OnBoth, Passed, Numbers, countOf}
 
 -- ---- what was read
@@ -147,9 +147,9 @@ union-parts d s t r e k =
     }
 
 module _ (d : ℕ) (s : List ℕ) (t : Schema) (p : Parts d s t) where
-  pub parts-variants : variantsOf t ≡ frame.variantsOf (p .variants)
-  unfolding variantsOf
-  parts-variants = ap variantsOf (p .is)
+  pub parts-variants : unionVariants t ≡ frame.variantsOf (p .variants)
+  unfolding unionVariants
+  parts-variants = ap unionVariants (p .is)
 
   pub parts-kinds : kindTable t ≡ p .kinds
   unfolding kindTable

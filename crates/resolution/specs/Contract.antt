@@ -1,29 +1,23 @@
 -- What resolution over parts of frames requires, and what its answers say.
-use Prim.Native.Nat.{ℕ, _-_, _≤_}
+use Prim.Native.Nat.{ℕ}
 use mathlib.Core.Path.{_≡_}
-use mathlib.Core.Logic.{_⊎_}
-use mathlib.Core.List.{List, [], _∷_, _++_}
+use mathlib.Core.List.{List, [], _++_}
 use mathlib.Core.Option.{Option, none, some}
-use mathlib.Core.Bool.{Bool, true, false, _&&_}
-use lib.Dec.{T, eqb}
-use lib.ListN.{length, take, drop, getD}
-use Rattle.base.specs.Base.{if_then_else_, Result, ok, no, after, accepted}
-use Rattle.number.specs.Number.{bytesOf}
+use lib.Dec.{T}
+use lib.ListN.{getD}
+use Rattle.base.specs.Base.{Result, ok, after}
 use Rattle.text.specs.Text.{Text}
-use Rattle.text.specs.Read.{Read}
 use Rattle.frame.specs.Kind
-use Rattle.frame.specs.Tree.{Value, Entries, Schema, Variants, kindOf, entries, peel}
-use Rattle.frame.specs.ValueFrame.{readValue, encodeValue, writeText}
+use Rattle.frame.specs.Tree.{Value, Schema, Variants, entries}
+use Rattle.frame.specs.ValueFrame.{readValue, writeText}
 use Rattle.frame.specs.SchemaFrame.{readSchema, readField}
 use Rattle.frame.specs.Sound.{schemaSound}
-use Rattle.types.specs.Types.{Outcome, resolvePlain, resolve-fixed, resolve-decimal, resolve-uuid, resolve-duration, resolve-enum}
+use Rattle.types.specs.Types.{Outcome}
 use Rattle.types.specs.Contract.{encoded}
-use Rattle.buffer.specs.Built.{Built, Wrote}
-use Rattle.avro.specs.Union.{Trial, noTrial, inUnion, namedVariant, find-schema-with-known-schemata}
-use Rattle.avro.specs.Resolve.{resolve, resolveFields, startDefault, trials, lookup, fieldValue, resolve-array, resolve-map, resolve-record}
+use Rattle.avro.specs.Union.{inUnion}
+use Rattle.avro.specs.Resolve.{resolve, startDefault, trials, lookup, fieldValue}
 use Rattle.avro.specs.Defaults.{defaultsShort, shortDefault}
 use Rattle.find.specs.declared.Found.{Found}
-use Rattle.resolution.specs.declared.Tried.{Tried}
 use Rattle.resolution.specs.declared.Wanted.{Wanted}
 use Rattle.find.specs.declared.Found.the-variants.{At, Nothing}
 
@@ -58,18 +52,9 @@ pub record ReadyDefault (depth : ℕ) (s d : List ℕ) : Type 0 where
 
 -- ---- outcomes
 
--- resolve_internal behind the peeling of one Union
+-- resolve_internal behind the peeling of one Union: w is what the Union held
 unfoldable pub resolvePeeled : Schema → Value → Outcome
-resolvePeeled (Schema.Plain k) w = resolvePlain k w
-resolvePeeled (Schema.Fixed n) w = resolve-fixed n w
-resolvePeeled (Schema.Decimal p s n) w = resolve-decimal p s n w
-resolvePeeled (Schema.Uuid f) w = resolve-uuid f w
-resolvePeeled (Schema.Duration n) w = resolve-duration w
-resolvePeeled (Schema.Enum ss d) w = resolve-enum ss d w
-resolvePeeled (Schema.Array s) w = resolve-array (λ x. resolve s x) w
-resolvePeeled (Schema.Map s) w = resolve-map (λ x. resolve s x) w
-resolvePeeled (Schema.Record fs) w = resolve-record (λ es. resolveFields fs es) w
-resolvePeeled (Schema.Union vs ks ns) w = inUnion (trials vs w) (find-schema-with-known-schemata (trials vs w) ks ns (kindOf w))
+resolvePeeled t w = resolve t (Value.Union 0 w)
 
 -- the bytes of a node, before and behind the peeling
 unfoldable pub nodeBytes : Schema → Value → Result (List ℕ)
@@ -91,21 +76,22 @@ unfoldable pub fieldBytes : Text × Option Value × Schema → Value → Result 
 fieldBytes f w = after (fieldValue (lookup (f .0) (entries w)) (f .1) (λ d. startDefault (f .2) d))
     (λ x. after (nodeBytes (f .2) x) (λ b. ok (writeText (f .0) ++ b)))
 
--- the bytes of a union's variant
-unfoldable pub variantsOf : Schema → Variants
-variantsOf (Schema.Plain k) = Variants.noVariants
-variantsOf (Schema.Fixed n) = Variants.noVariants
-variantsOf (Schema.Decimal p s n) = Variants.noVariants
-variantsOf (Schema.Uuid f) = Variants.noVariants
-variantsOf (Schema.Duration n) = Variants.noVariants
-variantsOf (Schema.Enum ss d) = Variants.noVariants
-variantsOf (Schema.Array s) = Variants.noVariants
-variantsOf (Schema.Map s) = Variants.noVariants
-variantsOf (Schema.Record fs) = Variants.noVariants
-variantsOf (Schema.Union vs ks ns) = vs
+-- the variants of a union schema, and none of any other
+unfoldable pub unionVariants : Schema → Variants
+unionVariants (Schema.Plain k) = Variants.noVariants
+unionVariants (Schema.Fixed n) = Variants.noVariants
+unionVariants (Schema.Decimal p s n) = Variants.noVariants
+unionVariants (Schema.Uuid f) = Variants.noVariants
+unionVariants (Schema.Duration n) = Variants.noVariants
+unionVariants (Schema.Enum ss d) = Variants.noVariants
+unionVariants (Schema.Array s) = Variants.noVariants
+unionVariants (Schema.Map s) = Variants.noVariants
+unionVariants (Schema.Record fs) = Variants.noVariants
+unionVariants (Schema.Union vs ks ns) = vs
 
+-- the bytes of a union's variant
 unfoldable pub variantBytes : ℕ → Schema → Value → Result (List ℕ)
-variantBytes i t w = encoded (inUnion (trials (variantsOf t) w) (some i))
+variantBytes i t w = encoded (inUnion (trials (unionVariants t) w) (some i))
 
 -- ---- kinds of parts
 

@@ -3,7 +3,7 @@ use Prim.Native.Nat.{ℕ, _+_, _-_, _*_, _≤_, _<_}
 use mathlib.Core.Path.{_≡_}
 use mathlib.Core.List.{List}
 use mathlib.Core.Option.{Option, none, some}
-use mathlib.Core.Bool.{Bool, true, false, _&&_, _||_}
+use mathlib.Core.Bool.{Bool, true, false}
 use lib.Dec.{ltb, eqb}
 use lib.ListN.{length, drop, getD}
 use Rattle.base.specs.Base.{if_then_else_, Result, accepted}
@@ -18,9 +18,9 @@ use Rattle.types.specs.Contract.{encoded}
 use Rattle.buffer.specs.Built.{Wrote}
 use Rattle.buffer.specs.declared.Answer.{Answer}
 use Rattle.buffer.specs.declared.Answer.the-variants.{Accepted, Refused}
-use Rattle.avro.specs.Union.{Trial, noTrial, schema-to-base-schemakind, unnamedKind, namedKind, lookupKind, namedVariant, firstThatResolves, inUnion}
+use Rattle.avro.specs.Union.{Trial, noTrial, schema-to-base-schemakind, unnamedKind, namedKind, lookupKind, tableLookup, takes, namedVariant, firstThatResolves, inUnion}
 use Rattle.avro.specs.Resolve.{trials}
-use Rattle.resolution.specs.Contract.{variantsOf, kindTable, namedTable}
+use Rattle.resolution.specs.Contract.{unionVariants, kindTable, namedTable}
 use Rattle.resolution.specs.declared.Choice.{Choice}
 use Rattle.find.specs.declared.Found.{Found}
 use Rattle.resolution.specs.declared.Tried.{Tried}
@@ -74,12 +74,7 @@ unfoldable pub isAt : Found → ℕ → Bool
 isAt (Found.At u) i = eqb u i
 isAt Found.Nothing i = false
 
--- the position that the kind table gives for a kind, if there is one to look for
-unfoldable pub tableLookup : List (ℕ × ℕ) → Option ℕ → Option ℕ
-tableLookup ks none = none
-tableLookup ks (some k) = lookupKind k ks
-
--- the same of a table that was read
+-- the position that a kind table gives for a kind, of a table that was read
 unfoldable pub lookupRead : ℕ → Read (List (ℕ × ℕ)) → Option ℕ
 lookupRead k none = none
 lookupRead k (some x) = lookupKind k (x .0)
@@ -87,21 +82,13 @@ lookupRead k (some x) = lookupKind k (x .0)
 -- ---- trials
 
 abbrev pub trialsOf : Schema → Value → List Trial
-trialsOf t w = trials (variantsOf t) w
+trialsOf t w = trials (unionVariants t) w
 
 abbrev pub countOf : Schema → ℕ
-countOf t = countVariants (variantsOf t)
+countOf t = countVariants (unionVariants t)
 
 abbrev pub trialAt : Schema → Value → ℕ → Trial
 trialAt t w i = getD (trialsOf t w) i noTrial
-
--- an Array or a Map
-unfoldable pub mustBeTried : ℕ → Bool
-mustBeTried k = eqb k Kind.Map || eqb k Kind.Array
-
--- the trial i has the base kind k and was accepted
-unfoldable pub takes : ℕ → List Trial → ℕ → Bool
-takes k ts i = eqb (getD ts i noTrial .base) k && accepted (getD ts i noTrial .outcome)
 
 -- the position that the kind table gives for a value, and the first named variant that resolves
 unfoldable pub tableOf : Schema → Value → Option ℕ

@@ -16,9 +16,9 @@ ghost use Rattle.frame.specs.Tree.{schemaKind};
 ghost use Rattle.frame.specs.Readers.{readList};
 ghost use Rattle.frame.specs.SchemaFrame.{readLead, readSchema};
 ghost use Rattle.buffer.specs.Built.{Built};
-ghost use Rattle.avro.specs.Union.{namedKind, unnamedKind};
+ghost use Rattle.avro.specs.Union.{mustBeTried, namedKind, tableLookup, unnamedKind};
 ghost use Rattle.resolution.specs.Contract.{foundOf, kindTable, namedTable, wantedOf};
-ghost use Rattle.resolution.specs.UnionContract.{Among, Numbers, OnRead, Passed, WasNamed, baseRead, isAt, lookupRead, mustBeTried, soonerOf, tableLookup};
+ghost use Rattle.resolution.specs.UnionContract.{Among, Numbers, OnRead, Passed, WasNamed, baseRead, isAt, lookupRead, soonerOf};
 
 // value_to_base_schemakind: the base kind of the named variants to try for a value of kind k.
 pub fn named_kind(k: u8) -> Wanted

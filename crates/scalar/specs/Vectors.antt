@@ -4,8 +4,7 @@ use Prim.Native.Nat.{ℕ}
 use mathlib.Core.Bool.{Bool, true, _&&_}
 use mathlib.Core.List.{List, [], _∷_}
 use lib.Dec.{eqb}
-use lib.Ieee.{size}
-use Rattle.rounding.specs.Rounding.{ofInteger, convert, convertMagnitude, magnitude, roundUnits, ofTwos}
+use Rattle.rounding.specs.Rounding.{ofInteger, convert, ofTwos}
 
 pub data Conversion : Type 0 where
   int-to-float int-to-double long-to-float long-to-double float-to-double double-to-float : Conversion

@@ -16,7 +16,7 @@ use Rattle.text.proofs.ReadLaws.{readNumber-some, readNumber-none}
 use Rattle.number.proofs.Laws.{numberAt-one}
 use Rattle.frame.specs.Tree.{Schema, UuidForm}
 use Rattle.frame.specs.Readers.{readList, readOption}
-use Rattle.frame.specs.SchemaFrame.{readUuidForm, readSchemaContent}
+use Rattle.frame.specs.SchemaFrame.{readUuidForm, readSymbols, readSchemaContent}
 use Rattle.text.specs.Measured.{Measured}
 use Rattle.text.specs.declared.Len.the-variants as len
 use Rattle.frame.specs.Sound.{schemaSound}
@@ -30,15 +30,15 @@ use Rattle.frame.proofs.Measuring.{Long, long, measured-broken, checks-some}
 module _ (node : List ℕ → Read Schema) (s : List ℕ) where
   pub enum-got : (ss : List Text) (a : ℕ) (d : Option Text) (b : ℕ) → readList readText s ≡ some (ss, drop a s) → readOption readText (drop a s) ≡ some (d, drop b (drop a s))
       → readSchemaContent node 12 s ≡ some (Schema.Enum ss d, drop (a + b) s)
-  unfolding readSchemaContent _>>=_
+  unfolding readSchemaContent readSymbols _>>=_
   enum-got ss a d b e g = rw (e, g, drop-drop b a s)
 
   pub enum-none : readList readText s ≡ none → readSchemaContent node 12 s ≡ none
-  unfolding readSchemaContent _>>=_
+  unfolding readSchemaContent readSymbols _>>=_
   enum-none e = rw e
 
   pub enum-later : (ss : List Text) (a : ℕ) → readList readText s ≡ some (ss, drop a s) → readOption readText (drop a s) ≡ none → readSchemaContent node 12 s ≡ none
-  unfolding readSchemaContent _>>=_
+  unfolding readSchemaContent readSymbols _>>=_
   enum-later ss a e g = rw (e, g)
 
   pub enum-checks : (a b : ℕ) → Measured (readList readText s) s (len.Of a) → Measured (readOption readText (drop a s)) (drop a s) (len.Of b) → Checks schemaSound (readSchemaContent node 12 s) s (Of (a + b) true)

@@ -12,7 +12,7 @@ use Rattle.text.specs.Read.{Read, _>>=_, readNumber, readText}
 use Rattle.frame.specs.Tree.{Value, Schema}
 use Rattle.frame.specs.Readers.{readList, readOption}
 use Rattle.frame.specs.ValueFrame.{readValue}
-use Rattle.frame.specs.SchemaFrame.{fieldsOf, variantsOf, readField, readLead, readSchemaContent, readSchema}
+use Rattle.frame.specs.SchemaFrame.{bare, fieldsOf, variantsOf, readField, readLead, readSymbols, readSchemaContent, readSchema}
 use Rattle.frame.specs.Sound.{schemaSound, kindsSound, positionsSound}
 use Rattle.frame.specs.Checks.{Checks}
 use Rattle.frame.specs.declared.Checked.the-variants.{Of, Broken}
@@ -22,7 +22,7 @@ use Rattle.frame.specs.Sound.{defaultAllowed}
 use Rattle.frame.proofs.Reading.{bind-some, bind-none, mapRead}
 use Rattle.frame.proofs.Measuring.{Long, long, held, checks-some, checks-broken}
 use Rattle.frame.proofs.SchemaNodes.{schema-node}
-use Rattle.schema.specs.Parts.{bare, fieldSound}
+use Rattle.schema.specs.Parts.{fieldSound}
 
 -- ---- a kind without content
 
@@ -55,6 +55,10 @@ module _ (node : List ℕ → Read Schema) (s : List ℕ) where
   pub record-content : readSchemaContent node 11 s ≡ mapRead (λ fs. Schema.Record (fieldsOf fs)) (readList (readField node) s)
   unfolding readSchemaContent
   record-content = refl
+
+  pub enum-content : readSchemaContent node 12 s ≡ mapRead (λ e. Schema.Enum (e .0) (e .1)) (readSymbols s)
+  unfolding readSchemaContent
+  enum-content = refl
 
   pub record-none : readList (readField node) s ≡ none → readSchemaContent node 11 s ≡ none
   record-none e = record-content ∙ bind-none _ _ e

@@ -15,14 +15,13 @@ use Rattle.text.specs.Measured.{Reads}
 use Rattle.frame.specs.Tree.{Schema}
 use Rattle.frame.specs.Readers.{readMany, readList, readOption}
 use Rattle.frame.specs.ValueFrame.{readValue}
-use Rattle.frame.specs.SchemaFrame.{variantsOf, readField, readLead, readSchemaContent, readSchema}
+use Rattle.frame.specs.SchemaFrame.{bare, variantsOf, readField, readLead, readSymbols, readSchemaContent, readSchema}
 use Rattle.frame.specs.Checks.{Spans}
 use Rattle.frame.proofs.Reading.{mapRead, reads-eq, reads-first, option-zero, option-one, option-long, option-is-one}
 use Rattle.frame.proofs.Measuring.{spans-some, spans-eq, spans-drop, spans-map, spans-after, reads-behind, number-spans, text-spans}
 use Rattle.frame.proofs.Counting.{list-many, reads-list}
 use Rattle.frame.proofs.SchemaNodes.{schema-there, schema-opened}
-use Rattle.schema.specs.Parts.{bare}
-use Rattle.schema.proofs.Nodes.{bare-content, array-content, map-content, record-content}
+use Rattle.schema.proofs.Nodes.{bare-content, array-content, map-content, record-content, enum-content}
 
 -- ---- two and three things, one behind the other
 
@@ -107,6 +106,21 @@ module _ {A : Type 0} (p : List ℕ → Read A) (s : List ℕ) (r : Reads (readO
     pub option-some-spans : (m : ℕ) → Spans (p (drop 1 s)) (drop 1 s) m → Spans (readOption p s) s (1 + m)
     option-some-spans m w = spans-eq _ _ s _ option-open (spans-drop _ s 1 m (option-long p s r) (spans-map some (p (drop 1 s)) (drop 1 s) m w))
 
+-- ---- symbols and default
+
+module _ (s : List ℕ) (r : Reads (readSymbols s)) where
+  pub symbols-texts : Reads (readList readText s)
+  unfolding readSymbols
+  symbols-texts = two-first (readList readText s) (readOption readText) (λ ss d. (ss, d)) s r
+
+  pub symbols-default : (a : ℕ) → Spans (readList readText s) s a → Reads (readOption readText (drop a s))
+  unfolding readSymbols
+  symbols-default = two-second (readList readText s) (readOption readText) (λ ss d. (ss, d)) s r
+
+  pub symbols-spans : (a b : ℕ) → Spans (readList readText s) s a → Spans (readOption readText (drop a s)) (drop a s) b → Spans (readSymbols s) s (a + b)
+  unfolding readSymbols
+  symbols-spans = two-spans (readList readText s) (readOption readText) (λ ss d. (ss, d)) s r
+
 -- ---- the content of a node
 
 not-parent : (k j : ℕ) → (8 ≤ k → 11 < k) → 8 ≤ j → j ≤ 11 → k ≡ j → ⊥
@@ -159,17 +173,11 @@ module _ (node : List ℕ → Read Schema) (s : List ℕ) where
     union-spans = three-spans (readList node s) (readList readLead) (readList (readNumber 2)) (λ vs ks ns. Schema.Union (variantsOf vs) ks ns) s r
 
   module _ (r : Reads (readSchemaContent node 12 s)) where
-    pub enum-symbols : Reads (readList readText s)
-    unfolding readSchemaContent
-    enum-symbols = two-first (readList readText s) (readOption readText) Schema.Enum s r
+    pub enum-known : Reads (readSymbols s)
+    enum-known = reads-first (readSymbols s) _ (reads-eq _ _ (enum-content node s) r)
 
-    pub enum-default : (a : ℕ) → Spans (readList readText s) s a → Reads (readOption readText (drop a s))
-    unfolding readSchemaContent
-    enum-default = two-second (readList readText s) (readOption readText) Schema.Enum s r
-
-    pub enum-spans : (a b : ℕ) → Spans (readList readText s) s a → Spans (readOption readText (drop a s)) (drop a s) b → Spans (readSchemaContent node 12 s) s (a + b)
-    unfolding readSchemaContent
-    enum-spans = two-spans (readList readText s) (readOption readText) Schema.Enum s r
+    pub enum-spans : (n : ℕ) → Spans (readSymbols s) s n → Spans (readSchemaContent node 12 s) s n
+    enum-spans n w = spans-eq _ _ s n (enum-content node s) (spans-map _ (readSymbols s) s n w)
 
   module _ (r : Reads (readField node s)) where
     pub field-text : Reads (readText s)

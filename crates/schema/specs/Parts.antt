@@ -1,18 +1,11 @@
--- What schema nodes are asked: whether a kind has no content, and the parts of a record one by one and together.
-use Prim.Native.Nat.{ℕ}
+-- What a schema is asked of the parts of a record and of a union, one by one and together.
 use mathlib.Core.List.{List, [], _∷_}
 use mathlib.Core.Option.{Option}
-use mathlib.Core.Bool.{Bool, true, _&&_, _||_, not}
-use lib.Dec.{leb}
+use mathlib.Core.Bool.{Bool, true, _&&_, not}
 use Rattle.text.specs.Text.{Text}
-use Rattle.frame.specs.Kind
 use Rattle.frame.specs.Tree.{Value, Schema}
 use Rattle.frame.specs.SchemaFrame.{fieldsOf, variantsOf}
 use Rattle.frame.specs.Sound.{schemaSound, variantsSound, defaultAllowed, hasField}
-
--- a kind without content, whose node is its kind byte alone
-abbrev pub bare : ℕ → Bool
-bare k = leb k Kind.String || (leb Kind.Date k && leb k Kind.LocalTimestampNanos)
 
 abbrev pub Field : Type 0
 Field = Text × Option Value × Schema

@@ -3,7 +3,6 @@ use frame::Checked;
 use number::read2;
 use text::Len;
 use text::text_len;
-ghost use mathlib.Core.Path.{_≡_};
 ghost use mathlib.Core.List.{List};
 ghost use Prim.Native.Nat.{ℕ, _≤_, _<_};
 ghost use Rattle.text.specs.Read.{Read, readNumber, readText};

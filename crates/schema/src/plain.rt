@@ -11,9 +11,8 @@ ghost use Rattle.text.specs.Read.{readNumber, readText};
 ghost use Rattle.text.specs.Measured.{Reads};
 ghost use Rattle.frame.specs.Readers.{readList, readOption};
 ghost use Rattle.frame.specs.ValueFrame.{readValue};
-ghost use Rattle.frame.specs.SchemaFrame.{readLead, readSchemaContent, readSchema};
+ghost use Rattle.frame.specs.SchemaFrame.{bare, readLead, readSymbols, readSchemaContent, readSchema};
 ghost use Rattle.frame.specs.Checks.{Spans};
-ghost use Rattle.schema.specs.Parts.{bare};
 
 // Whether a kind has no content: most fields of a record are of such a kind.
 pub fn is_bare(kind: u8) -> bool
@@ -53,8 +52,8 @@ fn option_text_skip(s: &[u8]) -> usize
 
 // Symbols and default.
 pub fn enum_skip(s: &[u8]) -> usize
-    requires { ⌜ Reads (readSchemaContent (readSchema 0) 12 (now s)) ⌝ }
-    ensures { λ r. ⌜ Spans (readSchemaContent (readSchema 0) 12 (now (s .entry))) (now (s .entry)) r ⌝ }
+    requires { ⌜ Reads (readSymbols (now s)) ⌝ }
+    ensures { λ r. ⌜ Spans (readSymbols (now (s .entry))) (now (s .entry)) r ⌝ }
 {
     let a = texts_len(s);
     a + option_text_skip(&s[a..])

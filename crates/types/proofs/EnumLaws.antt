@@ -18,7 +18,7 @@ use Rattle.frame.specs.Kind
 use Rattle.frame.specs.Tree.{Value, Schema, kindOf, octets}
 use Rattle.frame.specs.Readers.{readList, readOption}
 use Rattle.frame.specs.ValueFrame.{symbol, readContent, readValue, writeText, encodeValue}
-use Rattle.frame.specs.SchemaFrame.{readSchema, readSchemaContent}
+use Rattle.frame.specs.SchemaFrame.{readSymbols, readSchema, readSchemaContent}
 use Rattle.frame.specs.Checks.{Spans}
 use Rattle.frame.proofs.Reading.{read-rest, bind-some, bind-inv, mapRead, map-inv, reads-first, reads-number, option-zero, option-one, option-long, option-is-one}
 use Rattle.frame.proofs.ValueNodes.{value-there, value-content, value-kind}
@@ -27,9 +27,9 @@ use Rattle.buffer.specs.Built.{Built, Wrote}
 use Rattle.buffer.specs.declared.Answer.{Answer}
 use Rattle.buffer.specs.declared.Answer.the-variants.{Accepted, Refused}
 use Rattle.types.specs.declared.octets.Place.the-variants.{At, Nowhere}
-use Rattle.types.specs.Types.{position, enumAt, orDefault, resolve-enum}
+use Rattle.types.specs.Types.{position, enumAt, orDefault, validate-symbol, resolve-enum}
 use Rattle.types.specs.Contract.{encoded, onRead, onBoth}
-use Rattle.types.specs.Search.{readSymbols, placeFrom, placeIn, symbolOf, defaultOf, resolveEnumAt}
+use Rattle.types.specs.Search.{placeFrom, placeIn, defaultOf, resolveEnumAt}
 use Rattle.types.proofs.NodeLaws.{wrote-ok, wrote-no}
 use Rattle.types.proofs.PartLaws.{content-Enum}
 
@@ -77,8 +77,8 @@ symbols-list s p = reads-first (readList readText s) _ p
 module _ (s t o : List ℕ) (p : Reads (readSymbols s)) where
   -- a symbol that is there
   pub symbol-found : (i n : ℕ) → At i ≡ placeIn 0 t (readList readText s) → Built (Kind.Enum ∷ (bytesOf 4 i ++ writeText t)) o n
-      → Wrote (onRead (λ e. encoded (symbolOf t e)) (readSymbols s)) o (Accepted n)
-  unfolding onRead symbolOf orDefault enumAt encoded encodeValue placeIn
+      → Wrote (onRead (λ e. encoded (validate-symbol (e .0) (e .1) t)) (readSymbols s)) o (Accepted n)
+  unfolding onRead orDefault enumAt encoded encodeValue placeIn
   symbol-found i n e w =
       let y = symbols-are s p in
       let q : position t (y .ss) ≡ some i = place-some t (y .ss) i (e ∙ ap (placeIn 0 t) (y .list)) in
@@ -86,8 +86,8 @@ module _ (s t o : List ℕ) (p : Reads (readSymbols s)) where
 
   -- a symbol that is not: the default
   pub symbol-missing : (a : Answer) → Nowhere ≡ placeIn 0 t (readList readText s) → Wrote (onRead (λ e. encoded (defaultOf e)) (readSymbols s)) o a
-      → Wrote (onRead (λ e. encoded (symbolOf t e)) (readSymbols s)) o a
-  unfolding onRead symbolOf defaultOf enumAt placeIn
+      → Wrote (onRead (λ e. encoded (validate-symbol (e .0) (e .1) t)) (readSymbols s)) o a
+  unfolding onRead defaultOf enumAt placeIn
   symbol-missing a e w =
       let y = symbols-are s p in
       let q : position t (y .ss) ≡ none = place-none t (y .ss) (e ∙ ap (placeIn 0 t) (y .list)) in
@@ -164,17 +164,10 @@ record EnumSchema (ds : ℕ) (s : List ℕ) : Type 0 where
   schema : readSchema ds s ≡ some (Schema.Enum ss d, r)
 
 enum-schema : (ds : ℕ) (s : List ℕ) → Reads (readSchema ds s) → getD s 0 0 ≡ Kind.Enum → EnumSchema ds s
-unfolding readSchemaContent readSymbols Reads
+unfolding readSchemaContent Reads
 enum-schema ds s p e =
-    let w = bind-inv (readList readText (drop 1 s)) _ (p .0, p .1 .0) (sym (schema-opened ds s p 12 e) ∙ p .1 .1) in
-    let v = map-inv (λ q. Schema.Enum (w .0 .0) q) (readOption readText (w .0 .1)) (p .0) (p .1 .0) (w .1 .1) in
-    record {
-      ss = w .0 .0;
-      d = v .0;
-      r = p .1 .0;
-      symbols = bind-some (readList readText (drop 1 s)) _ (w .0 .0) (w .0 .1) (w .1 .0) ∙ bind-some (readOption readText (w .0 .1)) _ (v .0) (p .1 .0) (v .1 .0);
-      schema = p .1 .1 ∙ ap (λ t. some (t, p .1 .0)) (v .1 .1);
-    }
+    let v = map-inv (λ q. Schema.Enum (q .0) (q .1)) (readSymbols (drop 1 s)) (p .0) (p .1 .0) (sym (schema-opened ds s p 12 e) ∙ p .1 .1) in
+    record { ss = v .0 .0; d = v .0 .1; r = p .1 .0; symbols = v .1 .0; schema = p .1 .1 ∙ ap (λ t. some (t, p .1 .0)) (v .1 .1) }
 
 module _ (ds : ℕ) (s : List ℕ) (p : Reads (readSchema ds s)) (h : getD s 0 0 ≡ Kind.Enum) where
   pub schema-symbols : Reads (readSymbols (drop 1 s))
@@ -183,7 +176,7 @@ module _ (ds : ℕ) (s : List ℕ) (p : Reads (readSchema ds s)) (h : getD s 0 0
 
   module _ (d : ℕ) (v : List ℕ) (w : Value) (r : List ℕ) (e : readValue d v ≡ some (w, r)) (o : List ℕ) (a : Answer) where
     -- a value with a symbol
-    pub enum-way : (t : Text) → ((ss : List Text) (q : Option Text) → resolve-enum ss q w ≡ symbolOf t (ss, q)) → Wrote (onRead (λ e. encoded (symbolOf t e)) (readSymbols (drop 1 s))) o a
+    pub enum-way : (t : Text) → ((ss : List Text) (q : Option Text) → resolve-enum ss q w ≡ validate-symbol ss q t) → Wrote (onRead (λ e. encoded (validate-symbol (e .0) (e .1) t)) (readSymbols (drop 1 s))) o a
         → Wrote (onBoth (λ t w. encoded (resolveEnumAt t w)) (readSchema ds s) (readValue d v)) o a
     unfolding onRead onBoth resolveEnumAt
     enum-way t g k =
@@ -199,12 +192,12 @@ module _ (ds : ℕ) (s : List ℕ) (p : Reads (readSchema ds s)) (h : getD s 0 0
       let k : kindOf (q .0) ≡ getD v 0 0 = value-kind d v b (q .0) (q .1 .0) (q .1 .1) in
       wrote-no _ o 6 (rw (y .schema) (rw (q .1 .1) (rw (k, ne-eqb (getD v 0 0) 12 f, ne-eqb (getD v 0 0) 7 g))))
 
-pub string-symbol : (t : Text) (ss : List Text) (q : Option Text) → resolve-enum ss q (Value.Octets Kind.String t) ≡ symbolOf t (ss, q)
-unfolding resolve-enum symbolOf kindOf octets
+pub string-symbol : (t : Text) (ss : List Text) (q : Option Text) → resolve-enum ss q (Value.Octets Kind.String t) ≡ validate-symbol ss q t
+unfolding resolve-enum kindOf octets
 string-symbol t ss q = refl
 
-pub enum-symbol : (i : ℕ) (t : Text) (ss : List Text) (q : Option Text) → resolve-enum ss q (Value.Enum i t) ≡ symbolOf t (ss, q)
-unfolding resolve-enum symbolOf kindOf octets
+pub enum-symbol : (i : ℕ) (t : Text) (ss : List Text) (q : Option Text) → resolve-enum ss q (Value.Enum i t) ≡ validate-symbol ss q t
+unfolding resolve-enum kindOf octets
 enum-symbol i t ss q = refl
 
 -- ---- an Enum value's node

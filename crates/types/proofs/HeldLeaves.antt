@@ -24,7 +24,8 @@ use Rattle.frame.specs.Tree.{Value, Values, UuidForm, noItems, item, kindOf, is
 use Rattle.frame.specs.ValueFrame.{Content, wide, flag, counted, text, plain, array, map, union, symbol, unknown, table, content, countItems}
 use Rattle.frame.specs.Sound.{keysRise}
 use Rattle.frame.proofs.RoundTrip.{held, scalarHeld, octetsHeld, textHeld}
-use Rattle.frame.proofs.ReadHeld.{HeldText, plainKind}
+use Rattle.frame.proofs.ReadHeld.{HeldText}
+use Rattle.frame.specs.SchemaFrame.{bare}
 use Rattle.frame.proofs.Inside.{items-count}
 use Rattle.types.specs.Types.{Outcome, resolvePlain, resolve-null, resolve-boolean, resolve-int, resolve-long, resolve-float, resolve-double, resolve-bytes, resolve-string, resolveIntTime, resolveLongTime, special, try-u8, byteItems, resolve-fixed, pointBytes, textPoints, fixedTooShort, resolve-decimal, parsedUuid, uuidOfBytes, resolve-uuid, resolve-duration, later, position, enumAt, orDefault, resolve-enum}
 
@@ -317,15 +318,15 @@ earlier k =
     || (eqb k Kind.Date || eqb k Kind.TimeMillis)
 
 abbrev timeTest : ℕ → Bool
-timeTest k = earlier k || not (plainKind k) || (wide8 (content k) && leafKind k)
+timeTest k = earlier k || not (bare k) || (wide8 (content k) && leafKind k)
 
 times-hold : T (allBelow 25 timeTest)
 unfolding allBelow wide8 table
 times-hold = tt
 
 -- one of TimeMicros to LocalTimestampNanos
-time-kind : (k : ℕ) → T (plainKind k) → T (not (earlier k)) → k < 25 → (content k ≡ wide 8) × T (leafKind k)
-time-kind k h n l = go (earlier k) n (plainKind k) h (allBelow-lookup 25 timeTest times-hold k l)
+time-kind : (k : ℕ) → T (bare k) → T (not (earlier k)) → k < 25 → (content k ≡ wide 8) × T (leafKind k)
+time-kind k h n l = go (earlier k) n (bare k) h (allBelow-lookup 25 timeTest times-hold k l)
   where
     go : (a : Bool) → T (not a) → (b : Bool) → T b → T (a || not b || (wide8 (content k) && leafKind k)) → (content k ≡ wide 8) × T (leafKind k)
     go true n b t p = absurd n
@@ -339,11 +340,11 @@ not-or false b h k = k
 at-kind : (j k : ℕ) (f : ℕ → Type 0) → T (eqb k j) → f j → f k
 at-kind j k f t p = subst f (sym (eqb→eq k j t)) p
 
-plain-lt : (k : ℕ) → T (plainKind k) → k < 25
+plain-lt : (k : ℕ) → T (bare k) → k < 25
 plain-lt k h = or-cases (leb k Kind.String) (leb Kind.Date k && leb k Kind.LocalTimestampNanos) (k < 25) h
     (λ t. omega (arith, leb→le k 7 t)) (λ t. omega (arith, leb→le k 24 (and-r (leb Kind.Date k) (leb k Kind.LocalTimestampNanos) t)))
 
-pub kept-resolvePlain : (k : ℕ) → T (plainKind k) → (d : ℕ) (v : Value) (e : ℕ) → T (held v e) → KeptOkay d (resolvePlain k v)
+pub kept-resolvePlain : (k : ℕ) → T (bare k) → (d : ℕ) (v : Value) (e : ℕ) → T (held v e) → KeptOkay d (resolvePlain k v)
 unfolding resolvePlain table
 kept-resolvePlain k p d v e h =
     okay-if _ (eqb k Kind.Null) _ _ (λ _. kept-resolve-null d v e h)

@@ -14,7 +14,7 @@ use Rattle.uuid.specs.Uuid.{uuidOfText}
 use Rattle.scalar.specs.Conversion.{inInt, doubleOfFloat, parse-special-float}
 use Rattle.frame.specs.Kind
 use Rattle.frame.specs.Tree.{Value, Values, UuidForm, noItems, item, is, number, octets, items, peel}
-use Rattle.types.specs.Types.{Outcome, resolvePlain, resolve-null, resolve-boolean, resolve-int, resolve-long, resolve-float, resolve-double, resolve-bytes, resolve-string, resolveIntTime, resolveLongTime, special, try-u8, byteItems, resolve-fixed, pointBytes, textPoints, fixedTooShort, resolve-decimal, parsedUuid, uuidOfBytes, resolve-uuid, resolve-duration, position, enumAt, orDefault, resolve-enum}
+use Rattle.types.specs.Types.{Outcome, resolvePlain, resolve-null, resolve-boolean, resolve-int, resolve-long, resolve-float, resolve-double, resolve-bytes, resolve-string, resolveIntTime, resolveLongTime, special, inByte, intByte, try-u8, byteItems, resolve-fixed, pointBytes, textPoints, fixedTooShort, resolve-decimal, parsedUuid, uuidOfBytes, resolve-uuid, resolve-duration, position, enumAt, orDefault, resolve-enum}
 
 -- ---- scalars
 
@@ -68,7 +68,7 @@ within-resolveLongTime k v = within-if (is k v || is Kind.Long v) _ _ tt (within
 -- ---- bytes and texts
 
 pub within-try-u8 : (v : Value) → Within (try-u8 v)
-unfolding try-u8
+unfolding try-u8 intByte inByte
 within-try-u8 v = within-after (resolve-int (peel v)) _ (within-resolve-int (peel v)) λ n. within-if (leb (number n) 255) _ _ tt tt
 
 within-byteItems : (vs : Values) → Within (byteItems vs)

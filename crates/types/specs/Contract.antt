@@ -7,7 +7,6 @@ use lib.ListN.{length, drop}
 use Rattle.base.specs.Base.{Result, ok, no}
 use Rattle.text.specs.Read.{Read, readCounted}
 use Rattle.utf8.specs.Utf8.{codePoints}
-use Rattle.frame.specs.Tree.{Value}
 use Rattle.frame.specs.ValueFrame.{encodeValue}
 use Rattle.types.specs.Types.{Outcome}
 

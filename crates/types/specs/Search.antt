@@ -1,22 +1,14 @@
--- Enum schemas as they stand in a frame, and what the search for a symbol answers.
+-- What the search for a symbol answers, and `resolve_enum` at an Enum schema that was read.
 use Prim.Native.Nat.{ℕ, _+_}
 use mathlib.Core.List.{List}
 use mathlib.Core.Option.{Option, none, some}
-use Rattle.base.specs.Base.{Result, ok, no}
+use Rattle.base.specs.Base.{no}
 use Rattle.text.specs.Text.{Text}
-use Rattle.text.specs.Read.{Read, _>>=_, readText}
+use Rattle.text.specs.Read.{Read}
 use Rattle.frame.specs.Tree.{Value, Schema}
-use Rattle.frame.specs.Readers.{readList, readOption}
-use Rattle.types.specs.Types.{Outcome, position, enumAt, orDefault, resolve-enum}
+use Rattle.types.specs.Types.{Outcome, position, orDefault, resolve-enum}
 use Rattle.types.specs.declared.octets.Place.{Place}
 use Rattle.types.specs.declared.octets.Place.the-variants.{At, Nowhere}
-
--- symbols and default, behind an Enum schema's kind
-unfoldable pub readSymbols : List ℕ → Read (List Text × Option Text)
-readSymbols s = do
-  (ss, r) ← readList readText s
-  (d, t) ← readOption readText r
-  some ((ss, d), t)
 
 -- a place counted from i on
 unfoldable pub placeFrom : ℕ → Option ℕ → Place
@@ -27,10 +19,6 @@ placeFrom i (some j) = At (i + j)
 unfoldable pub placeIn : ℕ → Text → Read (List Text) → Place
 placeIn i x none = Nowhere
 placeIn i x (some l) = placeFrom i (position x (l .0))
-
--- a symbol at its place, or else the default at its own
-unfoldable pub symbolOf : Text → List Text × Option Text → Outcome
-symbolOf t e = orDefault (e .0) (e .1) (enumAt t (position t (e .0)))
 
 -- the default, where there is one
 unfoldable pub defaultOf : List Text × Option Text → Outcome

@@ -1,11 +1,11 @@
 -- The `resolve_` functions of src/types.rs that look at one node, and `try_u8`. A refusal is document 01's number, 6 to 15.
-use Prim.Native.Nat.{ℕ, zero, suc, _+_}
-use mathlib.Core.List.{List, [], _∷_, _++_}
+use Prim.Native.Nat.{ℕ, suc}
+use mathlib.Core.List.{List, [], _∷_}
 use mathlib.Core.Option.{Option, none, some}
-use mathlib.Core.Bool.{Bool, true, false, _&&_, _||_, not}
+use mathlib.Core.Bool.{Bool, false, _||_}
 use lib.Dec.{leb, ltb, eqb}
 use lib.ListN.{length}
-use Rattle.base.specs.Base.{if_then_else_, Result, ok, no, after}
+use Rattle.base.specs.Base.{if_then_else_, Result, ok, no, _>>=_}
 use Rattle.text.specs.Text.{Text, same}
 use Rattle.utf8.specs.Utf8.{isUtf8, codePoints}
 use Rattle.decimal.specs.Decimal.{tooShortFor}
@@ -16,10 +16,6 @@ use Rattle.frame.specs.Tree.{Value, Values, UuidForm, noItems, item, is, number
 
 abbrev pub Outcome : Type 0
 Outcome = Result Value
-
-infixl 20 _>>=_
-abbrev _>>=_ : {A B : Type 0} → Result A → (A → Result B) → Result B
-r >>= f = after r f
 
 -- ---- scalars
 
@@ -77,11 +73,19 @@ resolveLongTime k v =
 
 -- ---- bytes and texts
 
--- try_u8: the item is resolved as an Int, one Union peeled off
+-- the number of an Int, where it is a byte
+unfoldable pub inByte : ℕ → Result ℕ
+inByte n = if leb n 255 then ok n else no 8
+
+-- a value that is resolved as an Int, as a byte
+unfoldable pub intByte : Value → Result ℕ
+intByte v = do
+  n ← resolve-int v
+  inByte (number n)
+
+-- try_u8: one Union is peeled off the item
 unfoldable pub try-u8 : Value → Result ℕ
-try-u8 v = do
-  n ← resolve-int (peel v)
-  if leb (number n) 255 then ok (number n) else no 8
+try-u8 v = intByte (peel v)
 
 unfoldable pub byteItems : Values → Result (List ℕ)
 byteItems noItems = ok []
@@ -184,11 +188,12 @@ orDefault symbols d (ok v) = ok v
 orDefault symbols none (no n) = no n
 orDefault symbols (some d) (no n) = enumAt d (position d symbols)
 
--- the symbol at its first place, or else the default at its own
+-- validate_symbol: the symbol at its first place, or else the default at its own
+abbrev pub validate-symbol : List Text → Option Text → Text → Outcome
+validate-symbol symbols default s = orDefault symbols default (enumAt s (position s symbols))
+
 unfoldable pub resolve-enum : List Text → Option Text → Value → Outcome
-resolve-enum symbols default v =
-    if is Kind.Enum v || is Kind.String v then orDefault symbols default (enumAt (octets v) (position (octets v) symbols)) else
-    no 6
+resolve-enum symbols default v = if is Kind.Enum v || is Kind.String v then validate-symbol symbols default (octets v) else no 6
 
 -- a schema without content
 unfoldable pub resolvePlain : ℕ → Value → Outcome

@@ -19,11 +19,11 @@ ghost use Rattle.frame.specs.Kind;
 ghost use Rattle.frame.specs.Tree.{Value, UuidForm};
 ghost use Rattle.frame.specs.Readers.{readList};
 ghost use Rattle.frame.specs.ValueFrame.{readValue, writeText};
-ghost use Rattle.frame.specs.SchemaFrame.{readSchema};
+ghost use Rattle.frame.specs.SchemaFrame.{readSymbols, readSchema};
 ghost use Rattle.buffer.specs.Built.{Built, Wrote};
-ghost use Rattle.types.specs.Types.{resolve-string, resolve-fixed, resolve-decimal, resolve-uuid, resolve-duration, fixedTooShort, textPoints, uuidOfBytes, parsedUuid};
+ghost use Rattle.types.specs.Types.{resolve-string, resolve-fixed, resolve-decimal, resolve-uuid, resolve-duration, validate-symbol, fixedTooShort, textPoints, uuidOfBytes, parsedUuid};
 ghost use Rattle.types.specs.Contract.{encoded, onRead, onBoth, points, Holds};
-ghost use Rattle.types.specs.Search.{readSymbols, placeIn, symbolOf, defaultOf, resolveEnumAt};
+ghost use Rattle.types.specs.Search.{placeIn, defaultOf, resolveEnumAt};
 
 // The bytes behind a node's kind and length.
 pub fn content(v: &[u8]) -> &[u8]
@@ -367,7 +367,7 @@ fn enum_default(s: &[u8], out: &mut [u8]) -> Answer
 // A symbol at its place, or else the default.
 fn enum_of(s: &[u8], t: &[u8], out: &mut [u8]) -> Answer
     requires { ⌜ Reads (readSymbols (now s)) × (length (now t) < 65536) ⌝ }
-    ensures { λ r. ⌜ Wrote (onRead (λ e. encoded (symbolOf (now (t .entry)) e)) (readSymbols (now (s .entry)))) (now (out .exit)) r ⌝ }
+    ensures { λ r. ⌜ Wrote (onRead (λ e. encoded (validate-symbol (e .0) (e .1) (now (t .entry)))) (readSymbols (now (s .entry)))) (now (out .exit)) r ⌝ }
 {
     match position(s, t) {
         Place::At(i) => Answer::Accepted(put_enum(out, i, t)),

@@ -2,7 +2,6 @@
 use buffer::Answer;
 use scalar::Narrowed;
 use scalar::SpecialFloat;
-ghost use mathlib.Core.Path.{_≡_};
 ghost use mathlib.Core.List.{_∷_};
 ghost use Prim.Native.Nat.{_≤_, _<_};
 ghost use Rattle.number.specs.Number.{bytesOf};

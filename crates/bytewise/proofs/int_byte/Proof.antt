@@ -8,7 +8,8 @@ use Rattle.frame.proofs.ValueNodes.{value-there, value-kind}
 use Rattle.scalar.specs.Scalars.{narrowed}
 use Rattle.types.proofs.NodeLaws.{wide-node}
 use Rattle.types.proofs.ScalarLaws.{int-content, long-content}
-use Rattle.bytewise.specs.Items.{byteOf, inByte, intByte}
+use Rattle.bytewise.specs.Items.{byteOf}
+use Rattle.types.specs.Types.{inByte, intByte}
 use Rattle.bytewise.proofs.ByteLaws.{byte-answer, int-is, long-is, long-past, no-int}
 use borrow.Author.Needs.{needs}
 use Rattle.bytewise.proofs.int_byte.Statement.{statement}

@@ -4,7 +4,7 @@ use lib.ListN.{length, take}
 use lib.Seq.{length-take-le}
 use Rattle.hulmbax.specs.Answer.{bufferAfter}
 use Rattle.hulmbax.specs.Entry.{resolvedOf}
-use Rattle.hulmbax.proofs.EntryLaws.{passed-ready, chain-refused, chain-over, chain-short, handed}
+use Rattle.hulmbax.proofs.EntryLaws.{passed-ready, answerFor-refused, answerFor-over, answerFor-short, handed}
 use borrow.Author.Needs.{needs}
 use Rattle.hulmbax.proofs.hand_over.Statement.{statement}
 use Rattle.hulmbax.proofs.hand_over.Tie as tie
@@ -24,14 +24,14 @@ same-length c = search needs
 
 returns : tie.Need-returns
 unfolding resolvedOf bufferAfter
-returns c = rw (chain-over (c .before .before .before .before .before .before .before .before .before .before .before .before .args .schema .now) (c .before .before .before .before .before .before .before .before .before .before .before .before .args .«record» .now) (c .before .before .before .before .before .before .before .before .before .before .before .before .pre .0) (length (c .before .before .before .before .before .before .before .before .before .before .before .before .args .result .now)) _ _ (rw (c .before .before .n .given .1) at (c .before .before .before .before .before .before .resolve-node .ensures)) (c .if1 .taken)) (refl, refl)
+returns c = rw (answerFor-over (c .before .before .before .before .before .before .before .before .before .before .before .before .args .schema .now) (c .before .before .before .before .before .before .before .before .before .before .before .before .args .«record» .now) (c .before .before .before .before .before .before .before .before .before .before .before .before .pre .0) (length (c .before .before .before .before .before .before .before .before .before .before .before .before .args .result .now)) _ _ (rw (c .before .before .n .given .1) at (c .before .before .before .before .before .before .resolve-node .ensures)) (c .if1 .taken)) (refl, refl)
 
 same-length-2 : tie.Need-same-length-2
 same-length-2 c = search needs
 
 returns-2 : tie.Need-returns-2
 unfolding resolvedOf bufferAfter
-returns-2 c = rw (chain-short (c .before .before .before .before .before .before .before .before .before .before .before .before .before .args .schema .now) (c .before .before .before .before .before .before .before .before .before .before .before .before .before .args .«record» .now) (c .before .before .before .before .before .before .before .before .before .before .before .before .before .pre .0) (length (c .before .before .before .before .before .before .before .before .before .before .before .before .before .args .result .now)) _ _ (rw (c .before .before .before .n .given .1) at (c .before .before .before .before .before .before .before .resolve-node .ensures)) (c .before .if1 .left) (c .if2 .taken)) (refl, refl)
+returns-2 c = rw (answerFor-short (c .before .before .before .before .before .before .before .before .before .before .before .before .before .args .schema .now) (c .before .before .before .before .before .before .before .before .before .before .before .before .before .args .«record» .now) (c .before .before .before .before .before .before .before .before .before .before .before .before .before .pre .0) (length (c .before .before .before .before .before .before .before .before .before .before .before .before .before .args .result .now)) _ _ (rw (c .before .before .before .n .given .1) at (c .before .before .before .before .before .before .before .resolve-node .ensures)) (c .before .if1 .left) (c .if2 .taken)) (refl, refl)
 
 slice-reshare-prefix-copy : tie.Need-slice-reshare-prefix-copy
 slice-reshare-prefix-copy c = search needs
@@ -64,7 +64,7 @@ same-length-5 c = search needs
 
 returns-4 : tie.Need-returns-4
 unfolding resolvedOf bufferAfter
-returns-4 c = rw (chain-refused (c .before .before .before .before .before .before .before .before .before .before .before .args .schema .now) (c .before .before .before .before .before .before .before .before .before .before .before .args .«record» .now) (c .before .before .before .before .before .before .before .before .before .before .before .pre .0) (length (c .before .before .before .before .before .before .before .before .before .before .before .args .result .now)) _ _ (rw (c .before .e .given .1) at (c .before .before .before .before .before .resolve-node .ensures))) (refl, refl)
+returns-4 c = rw (answerFor-refused (c .before .before .before .before .before .before .before .before .before .before .before .args .schema .now) (c .before .before .before .before .before .before .before .before .before .before .before .args .«record» .now) (c .before .before .before .before .before .before .before .before .before .before .before .pre .0) (length (c .before .before .before .before .before .before .before .before .before .before .before .args .result .now)) _ _ (rw (c .before .e .given .1) at (c .before .before .before .before .before .resolve-node .ensures))) (refl, refl)
 
 pub hand-over-spec : {M : Type 1} → statement M
 hand-over-spec =

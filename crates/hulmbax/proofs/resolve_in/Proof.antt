@@ -1,5 +1,5 @@
 use mathlib.Core.Path.{_∙_}
-use Rattle.hulmbax.proofs.EntryLaws.{passed, stopped-schema, stopped-value, not-stopped}
+use Rattle.hulmbax.proofs.EntryLaws.{passed, stopped-schema, stopped-value}
 use borrow.Author.Needs.{needs}
 use Rattle.hulmbax.proofs.resolve_in.Statement.{statement}
 use Rattle.hulmbax.proofs.resolve_in.Tie as tie
@@ -37,7 +37,7 @@ same-length-4 : tie.Need-same-length-4
 same-length-4 c = search needs
 
 returns-3 : tie.Need-returns-3
-returns-3 c = not-stopped (c .before .before .before .before .before .before .before .before .before .before .before .before .before .before .before .before .before .before .args .schema .now) (c .before .before .before .before .before .before .before .before .before .before .before .before .before .before .before .before .before .before .args .«record» .now) (c .before .before .before .before .before .before .before .before .before .before .before .before .before .before .before .before .before .before .args .result .now) _ _ (c .before .before .before .before .hand-over .ensures)
+returns-3 c = c .before .before .before .before .hand-over .ensures
 
 pub resolve-in-spec : {M : Type 1} → statement M
 resolve-in-spec =

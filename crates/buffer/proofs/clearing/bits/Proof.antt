@@ -1,8 +1,6 @@
 use native.Mathlib.Omega.{arith}
-use Prim.Native.Nat.{_-_, _*_, _≤_}
-use mathlib.Core.Path.{_≡_, refl}
-use lib.ListN.{length}
-use borrow.Author.Needs.{needs}
+use Prim.Native.Nat.{_-_, _≤_}
+use mathlib.Core.Path.{refl}
 use Rattle.buffer.proofs.ClearLaws.{Unmet, unmet-none, unmet-next, unmet-all}
 use Rattle.buffer.proofs.clearing.bits.Statement.{statement}
 use Rattle.buffer.proofs.clearing.bits.Tie as tie

@@ -1,9 +1,8 @@
 use native.Mathlib.Omega.{arith}
-use native.Mathlib.Numerals.{add-one}
 use Prim.Native.Nat.{_-_, _≤_}
-use mathlib.Core.Path.{_≡_, sym, ap, _∙_, refl}
+use mathlib.Core.Path.{_≡_, refl}
 use mathlib.Core.List.{_++_}
-use lib.ListN.{length, drop, replicate, length-set, drop-of-length-le}
+use lib.ListN.{length, drop, replicate, length-set}
 use Rattle.buffer.proofs.ClearLaws.{clear-step, clear-end}
 use Rattle.buffer.proofs.clearing.fill.Statement.{statement}
 use Rattle.buffer.proofs.clearing.fill.Tie as tie

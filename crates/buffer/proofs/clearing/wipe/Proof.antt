@@ -1,4 +1,3 @@
-use native.Mathlib.Omega.{arith}
 use borrow.Author.Needs.{needs}
 use Rattle.buffer.proofs.clearing.wipe.Statement.{statement}
 use Rattle.buffer.proofs.clearing.wipe.Tie as tie

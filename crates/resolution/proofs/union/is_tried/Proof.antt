@@ -1,7 +1,7 @@
 use mathlib.Core.Path.{sym, ap, _∙_}
 use Rattle.text.specs.Measured.{Reads}
 use Rattle.frame.proofs.SchemaNodes.{schema-there, schema-kind}
-use Rattle.resolution.specs.UnionContract.{mustBeTried}
+use Rattle.avro.specs.Union.{mustBeTried}
 use Rattle.resolution.proofs.UnionReading.{on-read-of}
 use Rattle.resolution.proofs.UnionKinds.{map-tried, array-tried}
 use Rattle.resolution.proofs.union.is_tried.Statement.{statement}

@@ -3,8 +3,9 @@ use borrow.Rule.Slice.PartAt.{part-to-end}
 use mathlib.Core.Path.{sym, ap, _∙_}
 use Rattle.text.specs.Measured.{Reads}
 use Rattle.frame.proofs.Reading.{reads-some}
+use Rattle.avro.specs.Union.{tableLookup}
 use Rattle.resolution.specs.Contract.{foundOf, kindTable, wantedOf}
-use Rattle.resolution.specs.UnionContract.{lookupRead, tableLookup}
+use Rattle.resolution.specs.UnionContract.{lookupRead}
 use Rattle.resolution.proofs.UnionReading.{on-read-of, union-parts, table-reads}
 use Rattle.resolution.proofs.union.table_position.Statement.{statement}
 use Rattle.resolution.proofs.union.table_position.Tie as tie

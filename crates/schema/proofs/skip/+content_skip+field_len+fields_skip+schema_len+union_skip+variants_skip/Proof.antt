@@ -9,7 +9,7 @@ use Rattle.frame.proofs.Reading.{reads-eq}
 use Rattle.frame.proofs.Measuring.{spans-le, spans-eq}
 use Rattle.frame.proofs.Counting.{reads-list, Walking, walking-start, walking-first, walking-step, walking-end}
 use Rattle.frame.proofs.SchemaNodes.{schema-there}
-use Rattle.schema.proofs.Skipping.{text-held, leaf-content, array-known, array-spans, map-known, map-spans, record-known, record-spans, union-variants, union-leads, union-positions, union-spans, field-text, field-default, field-schema, field-spans, known-content, bare-spans, schema-spans}
+use Rattle.schema.proofs.Skipping.{text-held, leaf-content, array-known, array-spans, map-known, map-spans, record-known, record-spans, enum-known, enum-spans, union-variants, union-leads, union-positions, union-spans, field-text, field-default, field-schema, field-spans, known-content, bare-spans, schema-spans}
 use borrow.Author.Needs.{needs}
 use borrow.Fn.Kinds.{In}
 use borrow.Fn.PlainCycle.{Measures, is, falls, and}
@@ -140,10 +140,10 @@ content-skip-returns-4 : (t : ℕ) → content-skip-lts.Need-returns-4 (content-
 content-skip-returns-4 t c = rw (c .before .if4 .taken) (record-spans _ _ (rw (c .before .if4 .taken) at (c .before .before .before .before .before .before .pre .1)) _ (c .fields-skip .ensures))
 
 content-skip-enum-skip-requires : (t : ℕ) → content-skip-lts.Need-enum-skip-requires (content-skip-claims t) (content-skip-at t) content-skip.Post
-content-skip-enum-skip-requires t c κs = reads-eq _ _ (leaf-content _ _ 12 _ (λ h. omega arith)) (rw (c .if5 .taken) at (c .before .before .before .before .before .before .pre .1))
+content-skip-enum-skip-requires t c κs = enum-known _ _ (rw (c .if5 .taken) at (c .before .before .before .before .before .before .pre .1))
 
 content-skip-returns-5 : (t : ℕ) → content-skip-lts.Need-returns-5 (content-skip-claims t) (content-skip-at t) content-skip.Post
-content-skip-returns-5 t c = rw (c .before .if5 .taken) (spans-eq _ _ _ _ (leaf-content _ _ 12 _ (λ h. omega arith)) (c .enum-skip .ensures))
+content-skip-returns-5 t c = rw (c .before .if5 .taken) (enum-spans _ _ (rw (c .before .if5 .taken) at (c .before .before .before .before .before .before .before .pre .1)) _ (c .enum-skip .ensures))
 
 content-skip-leaf-skip-requires : (t : ℕ) → content-skip-lts.Need-leaf-skip-requires (content-skip-claims t) (content-skip-at t) content-skip.Post
 content-skip-leaf-skip-requires t c κs = ((λ h. omega (arith, c .before .before .before .before .if1 .left, c .before .before .before .if2 .left, c .before .before .if3 .left, c .before .if4 .left)), reads-eq _ _ (leaf-content _ _ _ _ (λ h. omega (arith, c .before .before .before .before .if1 .left, c .before .before .before .if2 .left, c .before .before .if3 .left, c .before .if4 .left))) (c .before .before .before .before .before .before .pre .1))
