@@ -7,10 +7,6 @@ use lib.Dec.{leb}
 use lib.ListN.{length, drop}
 use Rattle.utf8.specs.Utf8.{Start, run, isUtf8}
 
--- a byte from lo to hi
-unfoldable pub within : ℕ → ℕ → ℕ → Bool
-within lo hi b = leb lo b && leb b hi
-
 unfoldable pub allAscii : List ℕ → Bool
 allAscii [] = true
 allAscii (b ∷ s) = leb b 0x7f && allAscii s

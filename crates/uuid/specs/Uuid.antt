@@ -3,14 +3,11 @@ use Prim.Native.Nat.{ℕ, _+_, _-_, _*_}
 use mathlib.Core.List.{List, [], _∷_, _++_}
 use mathlib.Core.Option.{Option, none, some}
 use mathlib.Core.Bool.{Bool, true, false, _&&_}
-use lib.Dec.{leb, eqb}
+use lib.Dec.{eqb}
 use lib.ListN.{length, take, drop, getD, replicate}
-use Rattle.base.specs.Base.{if_then_else_}
+use Rattle.base.specs.Base.{if_then_else_, within}
 use Rattle.text.specs.Text.{Text, ascii, same}
 use Rattle.uuid.specs.declared.Parsed.{Parsed}
-
-abbrev pub within : ℕ → ℕ → ℕ → Bool
-within low high c = leb low c && leb c high
 
 -- a hexadecimal digit, in either case
 unfoldable pub hexDigit : ℕ → Option ℕ
