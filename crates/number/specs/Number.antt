@@ -1,4 +1,4 @@
--- Numbers stored high byte first (document 01, "Trees on the heap become frames"), and what a buffer holds after bytes are written at a position.
+-- Numbers stored high byte first (document 01, "Trees on the heap become frames") or low byte first, and what a buffer holds after bytes are written at a position.
 use Prim.Native.Nat.{ℕ, zero, suc, _+_, _*_, _/_, _%_, _^_}
 use mathlib.Core.List.{List, [], _∷_, _++_}
 use mathlib.Core.Bool.{Bool, true, false, _&&_}
@@ -15,7 +15,12 @@ unfoldable pub bigEndian : List ℕ → ℕ
 bigEndian [] = 0
 bigEndian (x ∷ xs) = x * 256 ^ length xs + bigEndian xs
 
--- the n-byte number at a position of a list
+-- the number that bytes hold, low byte first
+unfoldable pub littleEndian : List ℕ → ℕ
+littleEndian [] = 0
+littleEndian (x ∷ xs) = littleEndian xs * 256 + x
+
+-- the n-byte number at a position of a list, high byte first
 abbrev pub numberAt : List ℕ → ℕ → ℕ → ℕ
 numberAt s at n = bigEndian (take n (drop at s))
 
