@@ -8,7 +8,8 @@ use lib.Dec.{ltb}
 use lib.ListN.{length, take, drop}
 use lib.Seq.{take-at}
 use Rattle.base.specs.Base.{if_then_else_, Result, ok, no}
-use Rattle.hex.specs.Hex.{digit, decimal}
+use Rattle.uuid.specs.Rfc4122.{smallDigit}
+use Rattle.hex.specs.Hex.{decimal}
 use Rattle.hulmbax.specs.Answer.{answer, bufferAfter, workspaceSize}
 use Rattle.hulmbax.specs.Entry.{resolvedOf}
 use Rattle.hulmbax.specs.declared.Resolved.{Resolved}
@@ -55,7 +56,7 @@ decimal-short : (n : ℕ) → length (decimal n) ≤ 2
 unfolding decimal
 decimal-short n = go (ltb n 10)
   where
-    go : (b : Bool) → length (if b then digit n ∷ [] else digit (n / 10) ∷ digit (n % 10) ∷ []) ≤ 2
+    go : (b : Bool) → length (if b then smallDigit n ∷ [] else smallDigit (n / 10) ∷ smallDigit (n % 10) ∷ []) ≤ 2
     go true = omega arith
     go false = omega arith
 

@@ -1,12 +1,17 @@
 -- Notation that every definition shares, and results that may be a refusal.
 use Prim.Native.Nat.{ℕ}
-use mathlib.Core.Bool.{Bool, true, false}
+use mathlib.Core.Bool.{Bool, true, false, _&&_}
 use mathlib.Core.Option.{Option, none, some}
+use lib.Dec.{leb}
 
 infixr 1 if_then_else_
 abbrev pub if_then_else_ {ℓ} : {A : Type ℓ} → Bool → A → A → A
 if true then a else b = a
 if false then a else b = b
+
+-- from lo to hi
+abbrev pub within : ℕ → ℕ → ℕ → Bool
+within lo hi b = leb lo b && leb b hi
 
 unfoldable pub isSome : {A : Type 0} → Option A → Bool
 isSome none = false

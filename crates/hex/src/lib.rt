@@ -1,11 +1,10 @@
 // Hexadecimal and decimal digits of program resolve: a line to the bytes of its frame, and bytes and numbers to digits.
 ghost use mathlib.Core.Path.{_≡_};
-ghost use mathlib.Core.List.{List, _++_};
-ghost use mathlib.Core.Option.{some};
-ghost use Prim.Native.Nat.{ℕ, _+_, _*_, _≤_, _<_};
+ghost use mathlib.Core.List.{_++_};
+ghost use Prim.Native.Nat.{_+_, _*_, _≤_, _<_};
 ghost use lib.ListN.{length, drop};
-ghost use Rattle.uuid.specs.Uuid.{hexBytes};
-ghost use Rattle.hex.specs.Hex.{digit, hexOf, decimal};
+ghost use Rattle.uuid.specs.Rfc4122.{smallDigit};
+ghost use Rattle.hex.specs.Hex.{hexOf, decimal};
 ghost use Rattle.hex.specs.Line.{lineFrame, Holds};
 
 mod table;
@@ -49,7 +48,7 @@ pub fn from_hex(line: &[u8], out: &mut [u8]) -> Frame
 // The small digit of a value below 16.
 fn small_digit(n: u8) -> u8
     requires { ⌜ n < 16 ⌝ }
-    ensures { λ r. ⌜ r ≡ digit n ⌝ }
+    ensures { λ r. ⌜ r ≡ smallDigit n ⌝ }
 {
     if n < 10 { 0x30 + n } else { 0x57 + n }
 }

@@ -9,8 +9,7 @@ use borrow.Author.Tests.{ne-eqb, lt-ltb, le-ltb}
 use lib.Dec.{leb, eqb}
 use lib.ListN.{length}
 use Rattle.base.specs.Base.{if_then_else_, Result, ok, no, after}
-use Rattle.utf8.specs.Utf8.{isUtf8, codePoints, pointsFrom, ended, stepOf, digitsOf, allLatin1, latin1Count}
-use Rattle.utf8.specs.declared.Points.the-variants.{Of, Above}
+use Rattle.utf8.specs.Utf8.{isUtf8, codePoints, pointsFrom, ended, stepOf, digitsOf, allLatin1}
 use Rattle.decimal.specs.Decimal.{tooShortFor}
 use Rattle.frame.specs.Kind
 use Rattle.frame.specs.Tree.{Value, kindOf, octets}
@@ -40,24 +39,6 @@ length-points s = go (isUtf8 s) _ (points-below _ 0 s)
     go : (b : Bool) (ps : List ℕ) → length ps ≤ length s → length (orNone (if b then some ps else none)) ≤ length s
     go true ps h = h
     go false ps h = omega arith
-
--- ---- what the count answers
-
-pub count-of : (ps : List ℕ) (n : ℕ) → latin1Count ps ≡ Of n → (allLatin1 ps ≡ true) × (n ≡ length ps)
-unfolding latin1Count
-count-of ps n e = go (allLatin1 ps) e
-  where
-    go : (b : Bool) → (if b then Of (length ps) else Above) ≡ Of n → (b ≡ true) × (n ≡ length ps)
-    go true e = (refl, cc)
-    go false e = let z : _≡_ {A = ℕ} 0 1 = cc in absurd (omega arith)
-
-pub count-above : (ps : List ℕ) → latin1Count ps ≡ Above → allLatin1 ps ≡ false
-unfolding latin1Count
-count-above ps e = go (allLatin1 ps) e
-  where
-    go : (b : Bool) → (if b then Of (length ps) else Above) ≡ Above → b ≡ false
-    go true e = let z : _≡_ {A = ℕ} 0 1 = cc in absurd (omega arith)
-    go false e = refl
 
 -- ---- code points as bytes
 

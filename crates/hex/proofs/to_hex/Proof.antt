@@ -4,6 +4,7 @@ use Prim.Native.Nat.{_*_, _-_, _≤_}
 use native.Mathlib.Omega.{arith}
 use borrow.Author.Needs.{needs}
 use lib.ListN.{length, take, drop, length-set}
+use Rattle.uuid.specs.Rfc4122.{hexText}
 use Rattle.hex.specs.Hex.{hexOf}
 use Rattle.hex.proofs.DigitLaws.{hex-step, hex-end}
 use Rattle.hex.proofs.to_hex.Statement.{statement}
@@ -18,7 +19,7 @@ abbrev μ-loop : tie.MeasureT-loop
 μ-loop bytes out₀ i₀ out i = length bytes - i
 
 loop-holds : tie.Need-loop-holds Inv-loop μ-loop
-unfolding hexOf
+unfolding hexText
 loop-holds c = (omega arith, (refl, refl))
 
 shared-slice-read-b : tie.Need-shared-slice-read-b Inv-loop μ-loop

@@ -1,9 +1,8 @@
 use borrow.Author.Needs.{needs}
-use Prim.Native.Nat.{_+_, _-_, _≤_}
+use Prim.Native.Nat.{_+_, _-_}
 use mathlib.Core.Path.{_≡_}
 use native.Mathlib.Omega.{arith}
 use denote.Ref.{now}
-use lib.ListN.{length, take, drop}
 use Rattle.number.specs.Number.{numberAt}
 use Rattle.text.proofs.ReadLaws.{Counted, reads-counted, content-is}
 use Rattle.text.proofs.content.Statement.{statement}

@@ -1,13 +1,10 @@
-use mathlib.Core.Path.{_≡_, refl, ap, sym, _∙_, subst}
+use mathlib.Core.Path.{_≡_, refl, sym, _∙_}
 use native.Mathlib.Omega.{arith}
 use denote.Ref.{now}
-use Rattle.text.specs.Text.{same, less}
-use mathlib.Core.Bool.{Bool, true, false}
-use mathlib.Core.List.{List, [], _∷_}
-use lib.ListN.{length, getD, drop, drop-of-length-le}
-use Prim.Native.Nat.{ℕ, suc, _+_, _-_, _≤_, _<_}
+use Rattle.text.specs.Text.{less}
+use lib.ListN.{length, drop, drop-of-length-le}
+use Prim.Native.Nat.{suc, _-_, _≤_}
 use Rattle.text.proofs.TextLaws.{less-below, less-above, less-equal, less-short, less-end}
-use borrow.Author.Tests.{lt-ltb, le-ltb}
 use native.Mathlib.Numerals.{add-one}
 use Rattle.text.proofs.less.Statement.{statement}
 use Rattle.text.proofs.less.Tie as tie

@@ -1,14 +1,9 @@
 use borrow.Author.Needs.{needs}
-use Prim.Native.Nat.{ℕ, _+_, _≤_}
-use mathlib.Core.List.{List}
-use mathlib.Core.Path.{_≡_, sym, ap, _∙_}
-use mathlib.Core.Bool.{true}
-use mathlib.Core.Option.{some}
-use native.Mathlib.Omega.{arith}
+use Prim.Native.Nat.{_+_}
+use mathlib.Core.Path.{sym, _∙_}
 use denote.Ref.{now}
-use lib.ListN.{length, take, drop}
-use Rattle.utf8.specs.Utf8.{isUtf8}
-use Rattle.text.specs.Read.{Read, readCounted, readText}
+use lib.ListN.{length, drop}
+use Rattle.text.specs.Read.{readCounted}
 use Rattle.text.specs.Measured.{Measured, Reads}
 use Rattle.text.specs.declared.Len.the-variants.{Of, Broken}
 use Rattle.text.proofs.ReadLaws.{text-measured, readText-not, readText-none}

@@ -2,7 +2,7 @@
 use mathlib.Core.Path.{sym, _∙_}
 use native.Mathlib.Omega.{arith}
 use borrow.Author.Needs.{needs}
-use Rattle.published.proofs.Points.{count-of}
+use Rattle.utf8.proofs.Walk.{count-of}
 use Rattle.published.proofs.text_line.points_of.Statement.{statement}
 use Rattle.published.proofs.text_line.points_of.Tie as tie
 

@@ -5,7 +5,8 @@ use Rattle.types.specs.Contract.{points}
 use Rattle.types.proofs.PartLaws.{content-Decimal, wrote-counted, built-counted}
 use Rattle.types.proofs.OctetLaws.{refused-with, wrote-is}
 use Rattle.utf8.specs.Utf8.{codePoints, latin1Count}
-use Rattle.types.proofs.DecimalLaws.{points-are, length-points, count-of, count-above, decimal-accepted, decimal-refused}
+use Rattle.utf8.proofs.Walk.{count-of, count-above}
+use Rattle.types.proofs.DecimalLaws.{points-are, length-points, decimal-accepted, decimal-refused}
 use borrow.Author.Needs.{needs}
 use Rattle.types.proofs.octets.decimal_text.Statement.{statement}
 use Rattle.types.proofs.octets.decimal_text.Tie as tie
