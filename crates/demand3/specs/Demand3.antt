@@ -6,7 +6,7 @@ use mathlib.Core.Option.{Option, none, some}
 use mathlib.Core.Bool.{Bool, true, false, _&&_, _||_, not, Bool·beq}
 use lib.Dec.{T, leb, eqb}
 use lib.ListN.{length, take}
-use Rattle.base.specs.Base.{if_then_else_, Result, ok, after}
+use Rattle.base.specs.Base.{if_then_else_, Result, ok, no, after}
 use Rattle.number.specs.Number.{allBytes}
 use Rattle.text.specs.Text.{Text, same}
 use Rattle.frame.specs.Kind
