@@ -7,7 +7,7 @@ use native.Mathlib.Omega.{arith}
 use lib.Dec.{ltb}
 use lib.ListN.{length, take, drop}
 use lib.Seq.{take-at}
-use Rattle.base.specs.Base.{if_then_else_, Result, ok, no}
+use Rattle.base.specs.Base.{if_then_else_, Result, ok, stop}
 use Rattle.uuid.specs.Rfc4122.{smallDigit}
 use Rattle.hex.specs.Hex.{decimal}
 use Rattle.hulmbax.specs.Answer.{answer, bufferAfter, workspaceSize}
@@ -17,7 +17,7 @@ use Rattle.hulmbax.specs.declared.Resolved.the-variants.{Accepted, Refused}
 use Rattle.hulmbax.proofs.EntryLaws.{answer-is}
 use Rattle.hulmbax.proofs.Bounds.{Small, answer-small, answer-refusal-small, answer-accepted-small}
 use Rattle.lines.specs.Line.{answerLine}
-use Rattle.lines.proofs.LineLaws.{length-ok, length-no}
+use Rattle.lines.proofs.LineLaws.{length-ok, length-stop}
 
 -- ---- what the entry hands over
 
@@ -27,12 +27,12 @@ ok-is (ok b) o o' n e f =
     let i : n ≡ length b = cc in
     let k : take n o' ≡ b = ap (take n) f ∙ take-at b (drop (length b) o) n (sym i) in
     rw k (refl, sym i)
-ok-is (no m) o o' n e f = let z : _≡_ {A = ℕ} 0 1 = cc in absurd (omega arith)
+ok-is (stop m) o o' n e f = let z : _≡_ {A = ℕ} 0 1 = cc in absurd (omega arith)
 
-no-is : (x : Result (List ℕ)) (n : ℕ) → Refused n ≡ resolvedOf x → x ≡ no n
+stop-is : (x : Result (List ℕ)) (n : ℕ) → Refused n ≡ resolvedOf x → x ≡ stop n
 unfolding resolvedOf
-no-is (ok b) n e = let z : _≡_ {A = ℕ} 0 1 = cc in absurd (omega arith)
-no-is (no m) n e = let i : m ≡ n = cc in ap (λ (k : ℕ). no k) i
+stop-is (ok b) n e = let z : _≡_ {A = ℕ} 0 1 = cc in absurd (omega arith)
+stop-is (stop m) n e = let i : m ≡ n = cc in ap (λ (k : ℕ). stop k) i
 
 -- for a program's buffers
 module _ (s v o w : List ℕ) (lo : length o ≡ 65535) (lw : workspaceSize ≤ length w) where
@@ -45,9 +45,9 @@ module _ (s v o w : List ℕ) (lo : length o ≡ 65535) (lw : workspaceSize ≤ 
         let i : (answer s v (length o) (length w) ≡ ok (take n o')) × (length (take n o') ≡ n) = ok-is (answer s v (length o) (length w)) o o' n (sym p ∙ e) f in
         (sym same ∙ i .0, (i .1, omega (arith, i .1, answer-accepted-small s v (length o) (length w) (take n o') (i .0))))
 
-    pub refused-is : r ≡ Refused n → (answer s v 65535 workspaceSize ≡ no n) × (n ≤ 18)
+    pub refused-is : r ≡ Refused n → (answer s v 65535 workspaceSize ≡ stop n) × (n ≤ 18)
     refused-is p =
-        let i : answer s v (length o) (length w) ≡ no n = no-is (answer s v (length o) (length w)) n (sym p ∙ e) in
+        let i : answer s v (length o) (length w) ≡ stop n = stop-is (answer s v (length o) (length w)) n (sym p ∙ e) in
         (sym same ∙ i, answer-refusal-small s v (length o) (length w) n i)
 
 -- ---- the line of an answer
@@ -62,7 +62,7 @@ decimal-short n = go (ltb n 10)
 
 line-short : (x : Result (List ℕ)) → Small x → length (answerLine x) ≤ 131073
 line-short (ok r) h = omega (arith, length-ok r)
-line-short (no n) h = omega (arith, length-no n, decimal-short n)
+line-short (stop n) h = omega (arith, length-stop n, decimal-short n)
 
 pub answered : (s v : List ℕ) (x : Result (List ℕ)) (o o' : List ℕ) (n : ℕ) → answer s v 65535 workspaceSize ≡ x
     → (n ≡ length (answerLine x)) × (o' ≡ answerLine x ++ drop (length (answerLine x)) o)

@@ -5,7 +5,7 @@ use mathlib.Core.Option.{Option, none, some}
 use mathlib.Core.Bool.{Bool, _&&_, _||_, not}
 use lib.Dec.{leb, ltb, eqb}
 use lib.ListN.{getD}
-use Rattle.base.specs.Base.{if_then_else_, ok, no, _>>=_, accepted}
+use Rattle.base.specs.Base.{if_then_else_, ok, stop, _>>=_, accepted}
 use Rattle.frame.specs.Kind
 use Rattle.frame.specs.Tree.{Value, Schema, UuidForm, kindOf, peel}
 use Rattle.types.specs.Types.{Outcome, later}
@@ -54,7 +54,7 @@ pub record Trial : Type 0 where
   pub outcome : Outcome
 
 abbrev pub noTrial : Trial
-noTrial = record { kind = Kind.Union; base = Kind.Union; outcome = no 16 }
+noTrial = record { kind = Kind.Union; base = Kind.Union; outcome = stop 16 }
 
 -- the position that variant_index gives for a kind
 unfoldable pub lookupKind : ℕ → List (ℕ × ℕ) → Option ℕ
@@ -107,7 +107,7 @@ unfoldable pub find-schema-with-known-schemata : List Trial → List (ℕ × ℕ
 find-schema-with-known-schemata ts kinds named k = choose ts (unnamedVariant ts kinds (unnamedKind k)) (namedVariant ts named (namedKind k))
 
 unfoldable pub inUnion : List Trial → Option ℕ → Outcome
-inUnion ts none = no 16
+inUnion ts none = stop 16
 inUnion ts (some i) = do
   r ← getD ts i noTrial .outcome
   ok (Value.Union i r)

@@ -7,7 +7,7 @@ use native.Mathlib.Omega.{arith}
 use lib.ListN.{length, getD, drop, length-drop, length-append}
 use lib.Seq.{drop-drop}
 use borrow.Author.Tests.{le-leb, lt-leb}
-use Rattle.base.specs.Base.{Result, ok, no, after}
+use Rattle.base.specs.Base.{Result, ok, stop, after}
 use Rattle.number.specs.Number.{numberAt}
 use Rattle.text.specs.Read.{Read, _>>=_, readNumber}
 use Rattle.text.specs.Measured.{Reads}
@@ -27,7 +27,7 @@ use Rattle.buffer.specs.declared.Answer.{Answer}
 use Rattle.buffer.specs.declared.Answer.the-variants as A
 use Rattle.types.specs.Types.{inByte, intByte, try-u8, byteItems, resolve-bytes}
 use Rattle.types.specs.Contract.{encoded, onRead}
-use Rattle.types.proofs.NodeLaws.{wrote-ok, wrote-no}
+use Rattle.types.proofs.NodeLaws.{wrote-ok, wrote-stop}
 use Rattle.types.proofs.ScalarLaws.{int-kept, int-of-long, int-past, int-refused}
 use Rattle.types.proofs.PartLaws.{content-Bytes, content-Array, encode-counted, built-counted}
 use Rattle.value.proofs.NodeLaws.{arrayOf}
@@ -55,11 +55,11 @@ pub long-is : (n x : ℕ) → narrowed n ≡ To x → intByte (Value.Scalar Kind
 unfolding intByte number after
 long-is n x e = rw (int-of-long n x e)
 
-pub long-past : (n : ℕ) → narrowed n ≡ OutOfRange → intByte (Value.Scalar Kind.Long n) ≡ no 7
+pub long-past : (n : ℕ) → narrowed n ≡ OutOfRange → intByte (Value.Scalar Kind.Long n) ≡ stop 7
 unfolding intByte after
 long-past n e = rw (int-past n e)
 
-pub no-int : (k : ℕ) → (k ≡ 2 → ⊥) → (k ≡ 3 → ⊥) → (w : Value) → kindOf w ≡ k → intByte w ≡ no 6
+pub no-int : (k : ℕ) → (k ≡ 2 → ⊥) → (k ≡ 3 → ⊥) → (w : Value) → kindOf w ≡ k → intByte w ≡ stop 6
 unfolding intByte after
 no-int k f g w e = rw (int-refused k f g w e)
 
@@ -162,7 +162,7 @@ unfolding onRead _>>=_ listBytes itemsOf byteItems after
 items-front a none b e = refl
 items-front a (some z) b e = rw e
 
-items-stopped : (a : Value) (y : Read (List Value)) (n : ℕ) → Reads y → try-u8 a ≡ no n → onRead listBytes (mapRead (λ xs. a ∷ xs) y) ≡ no n
+items-stopped : (a : Value) (y : Read (List Value)) (n : ℕ) → Reads y → try-u8 a ≡ stop n → onRead listBytes (mapRead (λ xs. a ∷ xs) y) ≡ stop n
 unfolding onRead _>>=_ listBytes itemsOf byteItems after
 items-stopped a none n r e = absurd (not-reads none refl r)
 items-stopped a (some z) n r e = rw e
@@ -170,7 +170,7 @@ items-stopped a (some z) n r e = rw e
 behind-done : (u : Result (List ℕ)) (done : List ℕ) (b : ℕ) → after (after u (λ t. ok (b ∷ t))) (λ t. ok (done ++ t)) ≡ after u (λ t. ok ((done ++ (b ∷ [])) ++ t))
 unfolding after
 behind-done (ok t) done b = ap ok (sym (append-assoc done (b ∷ []) t))
-behind-done (no n) done b = refl
+behind-done (stop n) done b = refl
 
 -- what the answer says of the item that was read
 byte-is : (x : Read Value) (a : Value) (r : List ℕ) (b : ℕ) → x ≡ some (a, r) → Is b ≡ byteOf (onRead try-u8 x) → try-u8 a ≡ ok b
@@ -179,15 +179,15 @@ byte-is x a r b e h = go (try-u8 a) (h ∙ ap (λ y. byteOf (onRead try-u8 y)) e
   where
     go : (y : Result ℕ) → Is b ≡ byteOf y → y ≡ ok b
     go (ok m) q = let i : m ≡ b = cc in ap ok i
-    go (no m) q = let z : _≡_ {A = ℕ} 0 1 = cc in absurd (omega arith)
+    go (stop m) q = let z : _≡_ {A = ℕ} 0 1 = cc in absurd (omega arith)
 
-byte-not : (x : Read Value) (a : Value) (r : List ℕ) (n : ℕ) → x ≡ some (a, r) → Refused n ≡ byteOf (onRead try-u8 x) → try-u8 a ≡ no n
+byte-not : (x : Read Value) (a : Value) (r : List ℕ) (n : ℕ) → x ≡ some (a, r) → Refused n ≡ byteOf (onRead try-u8 x) → try-u8 a ≡ stop n
 unfolding onRead byteOf
 byte-not x a r n e h = go (try-u8 a) (h ∙ ap (λ y. byteOf (onRead try-u8 y)) e)
   where
-    go : (y : Result ℕ) → Refused n ≡ byteOf y → y ≡ no n
+    go : (y : Result ℕ) → Refused n ≡ byteOf y → y ≡ stop n
     go (ok m) q = let z : _≡_ {A = ℕ} 0 1 = cc in absurd (omega arith)
-    go (no m) q = let i : m ≡ n = cc in ap no i
+    go (stop m) q = let i : m ≡ n = cc in ap stop i
 
 -- the loop has come to `at` with `left` items to go: the bytes of the items passed are in o behind the header
 pub record Filling (p : List ℕ → Read Value) (s : List ℕ) (left at : ℕ) (o : List ℕ) (n : ℕ) : Type 0 where
@@ -216,7 +216,7 @@ filling-start p s o k n r e h w =
   where
     same : (u : Result (List ℕ)) → u ≡ after u (λ t. ok ([] ++ t))
     same (ok t) = refl
-    same (no i) = refl
+    same (stop i) = refl
 
 module _ (p : List ℕ → Read Value) (s : List ℕ) (left at : ℕ) (o : List ℕ) (n : ℕ) (g : Filling p s left at o n) where
   pub filling-first : 0 < left → (x : List ℕ) → x ≡ drop at s → Reads (p x)
@@ -246,11 +246,11 @@ module _ (p : List ℕ → Read Value) (s : List ℕ) (left at : ℕ) (o : List 
       }
 
   -- an item is no byte
-  pub filling-refused : 0 < left → (x : List ℕ) → x ≡ drop at s → (e : ℕ) → Refused e ≡ byteOf (onRead try-u8 (p x)) → onRead listBytes (readList p s) ≡ no e
+  pub filling-refused : 0 < left → (x : List ℕ) → x ≡ drop at s → (e : ℕ) → Refused e ≡ byteOf (onRead try-u8 (p x)) → onRead listBytes (readList p s) ≡ stop e
   unfolding Reads after
   filling-refused h x l e q =
       let v = filling-first h (drop at s) refl in
-      let i : try-u8 (v .0) ≡ no e = byte-not (p (drop at s)) (v .0) _ e (v .1 .1) (q ∙ ap (λ (z : List ℕ). byteOf (onRead try-u8 (p z))) l) in
+      let i : try-u8 (v .0) ≡ stop e = byte-not (p (drop at s)) (v .0) _ e (v .1 .1) (q ∙ ap (λ (z : List ℕ). byteOf (onRead try-u8 (p z))) l) in
       let j = next h (v .0) _ (v .1 .1) in
       let k = reads-first (readMany p (left - 1) (v .1 .0)) _ (reads-eq _ _ j (g .reads)) in
       g .outcome ∙ ap (λ (u : Result (List ℕ)). after u (λ t. ok (g .done ++ t))) (ap (onRead listBytes) j ∙ items-stopped (v .0) _ e k i)
@@ -282,5 +282,5 @@ module _ (p : List ℕ → Read Value) (s : List ℕ) (left at : ℕ) (o : List 
       → Wrote (onRead (λ vs. encoded (itemsAsBytes vs)) (readList p s)) o' (A.Refused e)
   unfolding encoded after
   items-refused h x l e q o' =
-      wrote-no _ o' e
+      wrote-stop _ o' e
       (items-outcome (readList p s) ∙ ap (λ (u : Result (List ℕ)). encoded (after u (λ s. ok (Value.Octets Kind.Bytes s)))) (filling-refused p s left at o n g h x l e q))

@@ -1,7 +1,7 @@
 -- What `try_u8` answers, and what the items of an array that were read are as Bytes.
 use Prim.Native.Nat.{ℕ}
 use mathlib.Core.List.{List}
-use Rattle.base.specs.Base.{Result, ok, no}
+use Rattle.base.specs.Base.{Result, ok, stop}
 use Rattle.frame.specs.Tree.{Value}
 use Rattle.frame.specs.ValueFrame.{itemsOf}
 use Rattle.types.specs.Types.{Outcome, byteItems, resolve-bytes}
@@ -11,7 +11,7 @@ use Rattle.bytewise.specs.declared.Byte.the-variants.{Is, Refused}
 -- the answer for a byte or a refusal
 unfoldable pub byteOf : Result ℕ → Byte
 byteOf (ok n) = Is n
-byteOf (no n) = Refused n
+byteOf (stop n) = Refused n
 
 -- the bytes of items that were read
 unfoldable pub listBytes : List Value → Result (List ℕ)

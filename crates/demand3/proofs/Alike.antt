@@ -8,7 +8,7 @@ use lib.Dec.{T, ltb, eqb, eqb→eq, eqb-refl, not-T}
 use lib.ListN.{length}
 use lib.Ieee.Bits.{is-true, is-false}
 use lib.Ieee.Fits.{and-l, and-r, and-i}
-use Rattle.base.specs.Base.{if_then_else_, Result, ok, no, after}
+use Rattle.base.specs.Base.{if_then_else_, Result, ok, stop, after}
 use Rattle.text.specs.Text.{Text, same}
 use Rattle.frame.specs.Kind
 use Rattle.frame.specs.Tree.{Value, Values, Entries, Schema, Fields, noItems, item, noEntries, entry, noFields, field, noVariants, variant, kindOf, items, entries, peel, schemaKind}
@@ -375,7 +375,7 @@ checked-same s p v w e k = go (schemaSound s) refl (defaultsShort s)
     same-outcome h = sym (strip-same s h p v) ∙ ap (resolve s) e ∙ strip-same s h p w
 
     go : (x : Bool) → schemaSound s ≡ x → (y : Bool)
-        → after (if x then (if y then ok s else no 4) else no 3) (λ t. after (resolve t v) k) ≡ after (if x then (if y then ok s else no 4) else no 3) (λ t. after (resolve t w) k)
+        → after (if x then (if y then ok s else stop 4) else stop 3) (λ t. after (resolve t v) k) ≡ after (if x then (if y then ok s else stop 4) else stop 3) (λ t. after (resolve t w) k)
     go false q y = refl
     go true q false = refl
     go true q true = ap (λ (r : Outcome). after r k) (same-outcome (subst (λ (x : Bool). T x) (sym q) tt))
@@ -385,7 +385,7 @@ answers-same : (schema a b : List ℕ) (tree : Schema) → decodeSchema schema �
 unfolding answer checkedValue after
 answers-same schema a b tree e p l buffer workspace =
     rw (e, l .left-is, l .right-is, is-true (keysRise (l .left)) (l .left-keys), is-true (keysRise (l .right)) (l .right-keys))
-    (ap (λ (r : Result (List ℕ)). if ltb workspace workspaceSize then no 1 else r) (checked-same tree p (l .left) (l .right) (l .equal) (λ r. checkedResult buffer (encodeValue r))))
+    (ap (λ (r : Result (List ℕ)). if ltb workspace workspaceSize then stop 1 else r) (checked-same tree p (l .left) (l .right) (l .equal) (λ r. checkedResult buffer (encodeValue r))))
 
 pub alike : Alike
 unfolding Alike

@@ -10,7 +10,7 @@ use lib.ListN.{length, drop}
 use lib.Seq.{take-at}
 use lib.Ieee.Bits.{is-true, is-false}
 use lib.Ieee.Fits.{and-l, and-r}
-use Rattle.base.specs.Base.{if_then_else_, Result, ok, no, after}
+use Rattle.base.specs.Base.{if_then_else_, Result, ok, stop, after}
 use Rattle.base.proofs.Okay.{Okay, okay-if, okay-after, okay-is}
 use Rattle.frame.specs.Tree.{Value, Schema}
 use Rattle.frame.specs.ValueFrame.{decodeValue, encodeValue}
@@ -45,7 +45,7 @@ value-okay b = okay-if _ (keysRise b) _ _ (λ h. (refl, h)) (λ _. tt)
 
 equal-okay : (r : Result Value) → Okay (λ a. r ≡ ok a) r
 equal-okay (ok a) = refl
-equal-okay (no n) = tt
+equal-okay (stop n) = tt
 
 not-or-l : (a b : Bool) → T (not (a || b)) → T (not a)
 not-or-l true b h = h
@@ -58,7 +58,7 @@ checkedResult-okay buffer r =
     (λ h. (refl, nltb→le 65535 (length r) (not-or-l (ltb 65535 (length r)) (ltb buffer (length r)) h)))
 
 made : (tree : Schema) (input : Value) (buffer workspace : ℕ)
-    → Okay (Made tree input) (if ltb workspace workspaceSize then no 1 else
+    → Okay (Made tree input) (if ltb workspace workspaceSize then stop 1 else
     after (checkedSchema (some tree)) (λ s. after (checkedValue (some input)) (λ v. after (resolve s v) (λ r. checkedResult buffer (encodeValue r)))))
 made tree input buffer workspace =
     okay-if _ (ltb workspace workspaceSize) _ _ (λ _. tt)
@@ -78,7 +78,7 @@ made tree input buffer workspace =
       bytes = w .0;
       size = rw (w .0) (w .1);
     }
-    okay-after′ s p v q r e (no n) w = tt
+    okay-after′ s p v q r e (stop n) w = tt
 
 made-of : {schema value result : List ℕ} (a : Accepted schema value result) → Made (a .tree) (a .input) result
 unfolding answer

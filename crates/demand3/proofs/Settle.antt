@@ -9,7 +9,7 @@ use lib.Dec.{T, leb, ltb, eqb, eqb→eq, eqb-refl, not-T, T-not, ltb→lt}
 use lib.ListN.{length, getD}
 use lib.Ieee.Bits.{is-true, is-false}
 use lib.Ieee.Fits.{and-l, and-r, and-i}
-use Rattle.base.specs.Base.{if_then_else_, ok, no, after, accepted}
+use Rattle.base.specs.Base.{if_then_else_, ok, stop, after, accepted}
 use Rattle.base.proofs.Okay.{Okay, okay-if, okay-after, okay-is, okay-any, Found}
 use Rattle.utf8.specs.Utf8.{isUtf8}
 use Rattle.text.specs.Text.{Text, same}
@@ -277,8 +277,8 @@ or-default : (ss : List Text) (d : Option Text) (e : Option Text) (o : Outcome) 
     → Okay (Stable (Schema.Enum ss d)) (Types.orDefault ss e o)
 unfolding Types.orDefault
 or-default ss d e (ok v) p = p
-or-default ss d none (no n) p = tt
-or-default ss d (some t) (no n) p = enum-at ss d t (Types.position t ss) refl (position-found t ss)
+or-default ss d none (stop n) p = tt
+or-default ss d (some t) (stop n) p = enum-at ss d t (Types.position t ss) refl (position-found t ss)
 
 pub enum-okay : (ss : List Text) (d : Option Text) (v : Value) → Okay (Stable (Schema.Enum ss d)) (resolve-enum ss d v)
 unfolding resolve-enum
@@ -426,7 +426,7 @@ Refused o = Okay (λ _. ⊥) o
 refused-is : (o : Outcome) → Refused o → accepted o ≡ false
 unfolding accepted
 refused-is (ok v) h = absurd h
-refused-is (no n) h = refl
+refused-is (stop n) h = refl
 
 no-kind : (k : ℕ) (x : Value) → kindOf x ≡ Kind.Null → T (not (eqb k Kind.Null)) → is k x ≡ false
 no-kind k x e h = is-false (is k x) (not-T (is k x) (λ t. T-not (eqb k Kind.Null) h (subst (λ (j : ℕ). T (eqb j Kind.Null)) (sym e ∙ kind-is k x t) tt)))
@@ -790,4 +790,4 @@ enum-twice ss d v = go (resolve-enum ss d v) (enum-okay ss d v)
   where
     go : (o : Outcome) → Okay (Stable (Schema.Enum ss d)) o → after o (resolve-enum ss d) ≡ o
     go (ok r) p = rw (peel-kind r (rw (fits-kind (Schema.Enum ss d) r (p .fitting)) tt)) at (p .again)
-    go (no n) p = refl
+    go (stop n) p = refl

@@ -8,7 +8,7 @@ use native.Mathlib.Omega.{arith}
 use borrow.Author.Tests.{ltb-false}
 use lib.Dec.{ltb}
 use lib.ListN.{length}
-use Rattle.base.specs.Base.{if_then_else_, Result, ok, no, after}
+use Rattle.base.specs.Base.{if_then_else_, Result, ok, stop, after}
 use Rattle.frame.specs.Tree.{Value, Schema}
 use Rattle.frame.specs.ValueFrame.{decodeValue, encodeValue}
 use Rattle.frame.specs.SchemaFrame.{decodeSchema}
@@ -20,23 +20,23 @@ use Rattle.hulmbax.specs.Answer.{answer, answerFor, checkedSchema, check
 
 abbrev Low : {A : Type 0} → Result A → Type 0
 Low (ok a) = Unit
-Low (no n) = n ≤ 18
+Low (stop n) = n ≤ 18
 
 abbrev pub Small : Result (List ℕ) → Type 0
 Small (ok r) = length r ≤ 65535
-Small (no n) = n ≤ 18
+Small (stop n) = n ≤ 18
 
 small-after : {A : Type 0} (x : Result A) (f : A → Result (List ℕ)) → Low x → ((a : A) → Small (f a)) → Small (after x f)
 unfolding after
 small-after (ok a) f p q = q a
-small-after (no n) f p q = p
+small-after (stop n) f p q = p
 
 low-schema : (o : Option Schema) → Low (checkedSchema o)
 unfolding checkedSchema
 low-schema none = omega arith
 low-schema (some t) = go (schemaSound t) (defaultsShort t)
   where
-    go : (a b : Bool) → Low (if a then (if b then ok t else no 4) else no 3)
+    go : (a b : Bool) → Low (if a then (if b then ok t else stop 4) else stop 3)
     go true true = tt
     go true false = omega arith
     go false b = omega arith
@@ -46,22 +46,22 @@ unfolding checkedValue
 low-value none = omega arith
 low-value (some w) = go (keysRise w)
   where
-    go : (a : Bool) → Low (if a then ok w else no 5)
+    go : (a : Bool) → Low (if a then ok w else stop 5)
     go true = tt
     go false = omega arith
 
 low-resolve : (t : Schema) (w : Value) → Low (resolve t w)
 low-resolve t w = go (resolve t w) (λ n e. refusal-resolve t w n e)
   where
-    go : (x : Result Value) → ((n : ℕ) → x ≡ no n → (6 ≤ n) × (n ≤ 17)) → Low x
+    go : (x : Result Value) → ((n : ℕ) → x ≡ stop n → (6 ≤ n) × (n ≤ 17)) → Low x
     go (ok y) f = tt
-    go (no n) f = omega (arith, f n refl)
+    go (stop n) f = omega (arith, f n refl)
 
 small-checkedResult : (len : ℕ) (b : List ℕ) → Small (checkedResult len b)
 unfolding checkedResult
 small-checkedResult len b = go (ltb 65535 (length b)) (ltb len (length b)) refl
   where
-    go : (x y : Bool) → ltb 65535 (length b) ≡ x → Small (if x || y then no 18 else ok b)
+    go : (x y : Bool) → ltb 65535 (length b) ≡ x → Small (if x || y then stop 18 else ok b)
     go true y e = omega arith
     go false true e = omega arith
     go false false e = ltb-false 65535 (length b) e
@@ -70,14 +70,14 @@ pub answer-small : (s v : List ℕ) (len work : ℕ) → Small (answer s v len w
 unfolding answer
 answer-small s v len work = go (ltb work workspaceSize)
   where
-    go : (b : Bool) → Small (if b then no 1 else answerFor s v len)
+    go : (b : Bool) → Small (if b then stop 1 else answerFor s v len)
     go true = omega arith
     go false =
         small-after (checkedSchema (decodeSchema s)) _ (low-schema (decodeSchema s))
         λ t. small-after (checkedValue (decodeValue v)) _ (low-value (decodeValue v))
         λ w. small-after (resolve t w) _ (low-resolve t w) λ x. small-checkedResult len (encodeValue x)
 
-pub answer-refusal-small : (s v : List ℕ) (len work n : ℕ) → answer s v len work ≡ no n → n ≤ 18
+pub answer-refusal-small : (s v : List ℕ) (len work n : ℕ) → answer s v len work ≡ stop n → n ≤ 18
 answer-refusal-small s v len work n e = subst (λ (x : Result (List ℕ)). Small x) e (answer-small s v len work)
 
 pub answer-accepted-small : (s v : List ℕ) (len work : ℕ) (r : List ℕ) → answer s v len work ≡ ok r → length r ≤ 65535

@@ -7,7 +7,7 @@ use lib.IntN.{ℤ, pos, negℤ, _-ℤ_, +ℤ-idl}
 use mir.Syntax.{w32}
 use mir.Val.{SFits, toZ, ofZ}
 use mir.ValLaws.{toZ-ofZ, toZ-pos}
-use Rattle.base.specs.Base.{Result, ok, no}
+use Rattle.base.specs.Base.{Result, ok, stop}
 use Rattle.hulmbax.specs.Answer.{answer}
 use Rattle.hulmbax.specs.Entry.{Short, resolvedOf}
 use Rattle.hulmbax.proofs.Bounds.{Small, answer-small}
@@ -20,7 +20,7 @@ answer-short s v len work = go (answer s v len work) (answer-small s v len work)
   where
     go : (x : Result (List ℕ)) → Small x → Short (resolvedOf x)
     go (ok r) h = h
-    go (no n) h = tt
+    go (stop n) h = tt
 
 -- ---- a refusal's number negated
 

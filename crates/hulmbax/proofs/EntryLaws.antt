@@ -11,7 +11,7 @@ use lib.ListN.{length, take, drop, replicate}
 use lib.Seq.{length-take-le, take-at, drop-at}
 use borrow.Author.Tests.{eqb-true}
 use lib.Ieee.Bits.{is-true, is-false}
-use Rattle.base.specs.Base.{if_then_else_, Result, ok, no, after}
+use Rattle.base.specs.Base.{if_then_else_, Result, ok, stop, after}
 use Rattle.text.specs.Read.{Read, _>>=_}
 use Rattle.text.specs.Measured.{Reads}
 use Rattle.frame.specs.Tree.{Value, Schema}
@@ -71,7 +71,7 @@ pub stop-unsound : (s : List ℕ) → Unsound ≡ schemaVerdict s → 3 ≡ stop
 unfolding schemaVerdict verdict checkedSchema stopOf
 stop-unsound s e = go (decodeSchema s) e
   where
-    test : (t : Schema) (b : Bool) → Unsound ≡ (if b then Sound else Unsound) → 3 ≡ stopOf (if b then (if defaultsShort t then ok t else no 4) else no 3)
+    test : (t : Schema) (b : Bool) → Unsound ≡ (if b then Sound else Unsound) → 3 ≡ stopOf (if b then (if defaultsShort t then ok t else stop 4) else stop 3)
     test t true e = let z : _≡_ {A = ℕ} 0 1 = cc in absurd (omega arith)
     test t false e = refl
 
@@ -111,7 +111,7 @@ stop-by-defaults s b f e =
     let d : b ≡ defaultsShort (f .tree) = e ∙ ap (testRead defaultsShort) (r .1) in
     ap (λ (o : Option Schema). stopOf (checkedSchema o)) (f .decoded) ∙ rw (is-true (schemaSound (f .tree)) (f .sound)) (go (defaultsShort (f .tree)) d)
   where
-    go : (c : Bool) → b ≡ c → stopOf (if c then ok (f .tree) else no 4) ≡ (if b then 0 else 4)
+    go : (c : Bool) → b ≡ c → stopOf (if c then ok (f .tree) else stop 4) ≡ (if b then 0 else 4)
     go true q = rw q refl
     go false q = rw q refl
 
@@ -120,7 +120,7 @@ pub stop-value : (v : List ℕ) → valueVerdict v ≡ Sound → 0 ≡ stopOf (c
 unfolding valueVerdict verdict checkedValue stopOf
 stop-value v e = go (decodeValue v) e
   where
-    test : (w : Value) (b : Bool) → (if b then Sound else Unsound) ≡ Sound → 0 ≡ stopOf (if b then ok w else no 5)
+    test : (w : Value) (b : Bool) → (if b then Sound else Unsound) ≡ Sound → 0 ≡ stopOf (if b then ok w else stop 5)
     test w true e = refl
     test w false e = let z : _≡_ {A = ℕ} 0 1 = cc in absurd (omega arith)
 
@@ -132,7 +132,7 @@ pub stop-unsound-value : (v : List ℕ) → valueVerdict v ≡ Unsound → 5 ≡
 unfolding valueVerdict verdict checkedValue stopOf
 stop-unsound-value v e = go (decodeValue v) e
   where
-    test : (w : Value) (b : Bool) → (if b then Sound else Unsound) ≡ Unsound → 5 ≡ stopOf (if b then ok w else no 5)
+    test : (w : Value) (b : Bool) → (if b then Sound else Unsound) ≡ Unsound → 5 ≡ stopOf (if b then ok w else stop 5)
     test w true e = let z : _≡_ {A = ℕ} 0 1 = cc in absurd (omega arith)
     test w false e = refl
 
@@ -144,7 +144,7 @@ pub stop-no-value : (v : List ℕ) → valueVerdict v ≡ NoFrame → 5 ≡ stop
 unfolding valueVerdict verdict checkedValue stopOf
 stop-no-value v e = go (decodeValue v) e
   where
-    test : (w : Value) (b : Bool) → (if b then Sound else Unsound) ≡ NoFrame → 5 ≡ stopOf (if b then ok w else no 5)
+    test : (w : Value) (b : Bool) → (if b then Sound else Unsound) ≡ NoFrame → 5 ≡ stopOf (if b then ok w else stop 5)
     test w true e = let z : _≡_ {A = ℕ} 0 1 = cc in absurd (omega arith)
     test w false e = refl
 
@@ -164,7 +164,7 @@ pub schema-passed : (s : List ℕ) (t : Schema) → checkedSchema (decodeSchema 
 unfolding checkedSchema
 schema-passed s t e = go (decodeSchema s) refl e
   where
-    test : (u : Schema) (a b : Bool) → schemaSound u ≡ a → defaultsShort u ≡ b → decodeSchema s ≡ some u → (if a then (if b then ok u else no 4) else no 3) ≡ ok t → PassedSchema s t
+    test : (u : Schema) (a b : Bool) → schemaSound u ≡ a → defaultsShort u ≡ b → decodeSchema s ≡ some u → (if a then (if b then ok u else stop 4) else stop 3) ≡ ok t → PassedSchema s t
     test u true true p q d e =
         let f : u ≡ t = cc in
         record { decoded = d ∙ ap (λ (x : Schema). some x) f; sound = subst (λ (x : Schema). T (schemaSound x)) f (rw p tt); short = subst (λ (x : Schema). T (defaultsShort x)) f (rw q tt) }
@@ -179,7 +179,7 @@ pub value-passed : (v : List ℕ) (w : Value) → checkedValue (decodeValue v) �
 unfolding checkedValue
 value-passed v w e = go (decodeValue v) refl e
   where
-    test : (u : Value) (b : Bool) → decodeValue v ≡ some u → (if b then ok u else no 5) ≡ ok w → decodeValue v ≡ some w
+    test : (u : Value) (b : Bool) → decodeValue v ≡ some u → (if b then ok u else stop 5) ≡ ok w → decodeValue v ≡ some w
     test u true d e = let f : u ≡ w = cc in d ∙ ap (λ (x : Value). some x) f
     test u false d e = let z : _≡_ {A = ℕ} 0 1 = cc in absurd (omega arith)
 
@@ -211,13 +211,13 @@ module _ (s v : List ℕ) (p : Passed s v) (len : ℕ) where
   unfolding after
   answerFor-is = rw (p .schema-is, p .value-is)
 
-  pub answerFor-refused : (o : List ℕ) (e : ℕ) → Wrote (onBoth nodeBytes (readSchema 16 s) (readValue 16 v)) o (Refused e) → answerFor s v len ≡ no e
+  pub answerFor-refused : (o : List ℕ) (e : ℕ) → Wrote (onBoth nodeBytes (readSchema 16 s) (readValue 16 v)) o (Refused e) → answerFor s v len ≡ stop e
   unfolding Wrote encoded after
   answerFor-refused o e w = answerFor-is ∙ go (resolve (p .tree) (p .value)) (rw (outcome-is s v p) at w)
     where
-      go : (x : Result Value) → Wrote (encoded x) o (Refused e) → after x (λ y. checkedResult len (encodeValue y)) ≡ no e
+      go : (x : Result Value) → Wrote (encoded x) o (Refused e) → after x (λ y. checkedResult len (encodeValue y)) ≡ stop e
       go (ok y) w = absurd w
-      go (no k) w = ap (λ (j : ℕ). no j) (sym w)
+      go (stop k) w = ap (λ (j : ℕ). stop j) (sym w)
 
   module _ (o : List ℕ) (n : ℕ) (w : Wrote (onBoth nodeBytes (readSchema 16 s) (readValue 16 v)) o (Accepted n)) where
     made : (x : Value) × (answerFor s v len ≡ checkedResult len (encodeValue x)) × Built (encodeValue x) o n
@@ -227,13 +227,13 @@ module _ (s v : List ℕ) (p : Passed s v) (len : ℕ) where
         go : (x : Result Value) → answerFor s v len ≡ after x (λ y. checkedResult len (encodeValue y)) → Wrote (encoded x) o (Accepted n)
             → (x : Value) × (answerFor s v len ≡ checkedResult len (encodeValue x)) × Built (encodeValue x) o n
         go (ok y) q w = (y, q, w)
-        go (no k) q w = absurd w
+        go (stop k) q w = absurd w
 
-    checkedResult-over : (b : List ℕ) → 65535 < length b → checkedResult len b ≡ no 18
+    checkedResult-over : (b : List ℕ) → 65535 < length b → checkedResult len b ≡ stop 18
     unfolding checkedResult
     checkedResult-over b h = rw (is-true (ltb 65535 (length b)) (lt→ltb 65535 (length b) h))
 
-    checkedResult-short : (b : List ℕ) → length b ≤ 65535 → len < length b → checkedResult len b ≡ no 18
+    checkedResult-short : (b : List ℕ) → length b ≤ 65535 → len < length b → checkedResult len b ≡ stop 18
     unfolding checkedResult
     checkedResult-short b h k = rw (is-false (ltb 65535 (length b)) (le→nltb 65535 (length b) h), is-true (ltb len (length b)) (lt→ltb len (length b) k))
 
@@ -241,11 +241,11 @@ module _ (s v : List ℕ) (p : Passed s v) (len : ℕ) where
     unfolding checkedResult
     checkedResult-fits b h k = rw (is-false (ltb 65535 (length b)) (le→nltb 65535 (length b) h), is-false (ltb len (length b)) (le→nltb len (length b) k))
 
-    pub answerFor-over : 65535 < n → answerFor s v len ≡ no 18
+    pub answerFor-over : 65535 < n → answerFor s v len ≡ stop 18
     unfolding Built
     answerFor-over h = made .1 ∙ checkedResult-over (encodeValue (made .0)) (omega (arith, made .2 .0))
 
-    pub answerFor-short : n ≤ 65535 → len < n → answerFor s v len ≡ no 18
+    pub answerFor-short : n ≤ 65535 → len < n → answerFor s v len ≡ stop 18
     unfolding Built
     answerFor-short h k = made .1 ∙ checkedResult-short (encodeValue (made .0)) (omega (arith, made .2 .0)) (omega (arith, made .2 .0))
 
@@ -265,10 +265,10 @@ unfolding answer
 answer-is s v len work h = rw (is-false (ltb work workspaceSize) (le→nltb work workspaceSize h))
 
 -- a step that stops with n: its number, or nothing to stop
-stops : {A : Type 0} (x : Result A) (n : ℕ) → n ≡ stopOf x → (n ≡ 0 → ⊥) → x ≡ no n
+stops : {A : Type 0} (x : Result A) (n : ℕ) → n ≡ stopOf x → (n ≡ 0 → ⊥) → x ≡ stop n
 unfolding stopOf
 stops (ok a) n e f = absurd (f e)
-stops (no k) n e f = ap (λ (j : ℕ). no j) (sym e)
+stops (stop k) n e f = ap (λ (j : ℕ). stop j) (sym e)
 
 -- no check refuses with 0
 schema-never-0 : (o : Option Schema) → 0 ≡ stopOf (checkedSchema o) → (t : Schema) × (checkedSchema o ≡ ok t)
@@ -276,7 +276,7 @@ unfolding checkedSchema stopOf
 schema-never-0 none e = let z : _≡_ {A = ℕ} 0 1 = cc in absurd (omega arith)
 schema-never-0 (some t) e = go (schemaSound t) (defaultsShort t) e
   where
-    go : (a b : Bool) → 0 ≡ stopOf (if a then (if b then ok t else no 4) else no 3) → (u : Schema) × ((if a then (if b then ok t else no 4) else no 3) ≡ ok u)
+    go : (a b : Bool) → 0 ≡ stopOf (if a then (if b then ok t else stop 4) else stop 3) → (u : Schema) × ((if a then (if b then ok t else stop 4) else stop 3) ≡ ok u)
     go true true e = (t, refl)
     go true false e = absurd (omega arith)
     go false b e = absurd (omega arith)
@@ -286,7 +286,7 @@ unfolding checkedValue stopOf
 value-never-0 none e = absurd (omega arith)
 value-never-0 (some w) e = go (keysRise w) e
   where
-    go : (a : Bool) → 0 ≡ stopOf (if a then ok w else no 5) → (u : Value) × ((if a then ok w else no 5) ≡ ok u)
+    go : (a : Bool) → 0 ≡ stopOf (if a then ok w else stop 5) → (u : Value) × ((if a then ok w else stop 5) ≡ ok u)
     go true e = (w, refl)
     go false e = absurd (omega arith)
 
@@ -319,7 +319,7 @@ handed s v p o o' w n a h k l e =
 
 -- ---- the workspace
 
-pub answer-1 : (s v : List ℕ) (len work : ℕ) → work < workspaceSize → answer s v len work ≡ no 1
+pub answer-1 : (s v : List ℕ) (len work : ℕ) → work < workspaceSize → answer s v len work ≡ stop 1
 unfolding answer
 answer-1 s v len work h = rw (is-true (ltb work workspaceSize) (lt→ltb work workspaceSize h))
 
@@ -331,19 +331,19 @@ too-short s v o w h = rw (answer-1 s v (length o) (length w) h) (refl, (refl, re
 -- nothing but the workspace's length gives 1
 abbrev NotOne : {A : Type 0} → Result A → Type 0
 NotOne (ok a) = Unit
-NotOne (no n) = n ≡ 1 → ⊥
+NotOne (stop n) = n ≡ 1 → ⊥
 
 after-not-1 : {A B : Type 0} (x : Result A) (f : A → Result B) → NotOne x → ((a : A) → NotOne (f a)) → NotOne (after x f)
 unfolding after
 after-not-1 (ok a) f p q = q a
-after-not-1 (no n) f p q = p
+after-not-1 (stop n) f p q = p
 
 schema-not-1 : (o : Option Schema) → NotOne (checkedSchema o)
 unfolding checkedSchema
 schema-not-1 none = λ e. omega arith
 schema-not-1 (some t) = go (schemaSound t) (defaultsShort t)
   where
-    go : (a b : Bool) → NotOne (if a then (if b then ok t else no 4) else no 3)
+    go : (a b : Bool) → NotOne (if a then (if b then ok t else stop 4) else stop 3)
     go true true = tt
     go true false = λ e. omega arith
     go false b = λ e. omega arith
@@ -353,43 +353,43 @@ unfolding checkedValue
 value-not-1 none = λ e. omega arith
 value-not-1 (some w) = go (keysRise w)
   where
-    go : (a : Bool) → NotOne (if a then ok w else no 5)
+    go : (a : Bool) → NotOne (if a then ok w else stop 5)
     go true = tt
     go false = λ e. omega arith
 
 resolve-not-1 : (t : Schema) (w : Value) → NotOne (resolve t w)
 resolve-not-1 t w = go (resolve t w) (λ n e. refusal-resolve t w n e)
   where
-    go : (x : Result Value) → ((n : ℕ) → x ≡ no n → (6 ≤ n) × (n ≤ 17)) → NotOne x
+    go : (x : Result Value) → ((n : ℕ) → x ≡ stop n → (6 ≤ n) × (n ≤ 17)) → NotOne x
     go (ok y) f = tt
-    go (no n) f = λ e. omega (arith, f n refl)
+    go (stop n) f = λ e. omega (arith, f n refl)
 
 checkedResult-not-1 : (len : ℕ) (b : List ℕ) → NotOne (checkedResult len b)
 unfolding checkedResult
 checkedResult-not-1 len b = go (ltb 65535 (length b) || ltb len (length b))
   where
-    go : (a : Bool) → NotOne (if a then no 18 else ok b)
+    go : (a : Bool) → NotOne (if a then stop 18 else ok b)
     go true = λ e. omega arith
     go false = tt
 
-answerFor-not-1 : (s v : List ℕ) (len : ℕ) → answerFor s v len ≡ no 1 → ⊥
+answerFor-not-1 : (s v : List ℕ) (len : ℕ) → answerFor s v len ≡ stop 1 → ⊥
 answerFor-not-1 s v len e = go (answerFor s v len) e
     (after-not-1 (checkedSchema (decodeSchema s)) _ (schema-not-1 (decodeSchema s))
     λ t. after-not-1 (checkedValue (decodeValue v)) _ (value-not-1 (decodeValue v))
     λ w. after-not-1 (resolve t w) _ (resolve-not-1 t w) λ x. checkedResult-not-1 len (encodeValue x))
   where
-    go : (x : Result (List ℕ)) → x ≡ no 1 → NotOne x → ⊥
+    go : (x : Result (List ℕ)) → x ≡ stop 1 → NotOne x → ⊥
     go (ok r) e f = let z : _≡_ {A = ℕ} 0 1 = cc in omega arith
-    go (no n) e f = f (cc)
+    go (stop n) e f = f (cc)
 
 -- after any other answer its first 65,536 bytes are zero
-zeroed : (x : Result (List ℕ)) (w : List ℕ) → (x ≡ no 1 → ⊥) → workspaceAfter x w ≡ replicate 65536 0 ++ drop 65536 w
+zeroed : (x : Result (List ℕ)) (w : List ℕ) → (x ≡ stop 1 → ⊥) → workspaceAfter x w ≡ replicate 65536 0 ++ drop 65536 w
 unfolding workspaceAfter
 zeroed (ok r) w f = refl
-zeroed (no n) w f = go (eqb n 1) refl
+zeroed (stop n) w f = go (eqb n 1) refl
   where
     go : (b : Bool) → eqb n 1 ≡ b → (if b then w else replicate 65536 0 ++ drop 65536 w) ≡ replicate 65536 0 ++ drop 65536 w
-    go true e = absurd (f (ap (λ (j : ℕ). no j) (eqb-true n 1 e)))
+    go true e = absurd (f (ap (λ (j : ℕ). stop j) (eqb-true n 1 e)))
     go false e = refl
 
 pub cleared : (s v o o' w y z : List ℕ) (r : Resolved) → 65536 ≤ length w → length y ≡ length (take 65536 w) → z ≡ replicate (length (take 65536 (y ++ drop 65536 w))) 0

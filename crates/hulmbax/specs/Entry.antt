@@ -5,7 +5,7 @@ use lib.IntN.{ℤ, pos, negℤ}
 use mathlib.Core.Path.{_≡_}
 use mathlib.Core.List.{List}
 use lib.ListN.{length}
-use Rattle.base.specs.Base.{if_then_else_, Result, ok, no}
+use Rattle.base.specs.Base.{if_then_else_, Result, ok, stop}
 use Rattle.frame.specs.Tree.{Value, Schema}
 use Rattle.frame.specs.ValueFrame.{decodeValue}
 use Rattle.frame.specs.SchemaFrame.{decodeSchema}
@@ -16,12 +16,12 @@ use Rattle.hulmbax.specs.declared.Resolved.the-variants.{Accepted, Refus
 -- an accepted result has its length; a refusal has document 01's number
 unfoldable pub resolvedOf : Result (List ℕ) → Resolved
 resolvedOf (ok r) = Accepted (length r)
-resolvedOf (no n) = Refused n
+resolvedOf (stop n) = Refused n
 
 -- the number of what stops a step, 0 where nothing does
 unfoldable pub stopOf : {A : Type 0} → Result A → ℕ
 stopOf (ok a) = 0
-stopOf (no n) = n
+stopOf (stop n) = n
 
 -- both frames passed their checks
 pub record Passed (schema record' : List ℕ) : Type 0 where

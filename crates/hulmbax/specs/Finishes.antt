@@ -3,7 +3,7 @@ use Prim.Native.Nat.{ℕ}
 use Prim.Native.String.{String}
 use mathlib.Core.List.{List, [], _∷_}
 use mathlib.Core.Option.{Option·getD}
-use Rattle.base.specs.Base.{Result, ok, no}
+use Rattle.base.specs.Base.{Result, ok, stop}
 use Rattle.text.specs.Text.{ascii}
 use Rattle.uuid.specs.Uuid.{hexBytes}
 
@@ -24,14 +24,14 @@ infix 30 _with_is_
 unfoldable pub starred : List Finish
 starred =
     ("02" with "03000000007fffffff" is ok (hex "027fffffff"))
-    ∷ ("02" with "030000000080000000" is no 7)
+    ∷ ("02" with "030000000080000000" is stop 7)
     ∷ ("04" with "0201000001" is ok (hex "044b800000"))
     ∷ ("04" with "0201000003" is ok (hex "044b800002"))
     ∷ ("05" with "030020000000000001" is ok (hex "054340000000000000"))
     ∷ ("05" with "0700034e614e" is ok (hex "057ff8000000000000"))
     ∷ ("0d0004" with "0700026162" is ok (hex "0d00026162"))
-    ∷ ("0d0004" with "0600026162" is no 10)
+    ∷ ("0d0004" with "0600026162" is stop 10)
     ∷ ("0a0002000500020000000500010000" with "00" is ok (hex "0a0000000000"))
     ∷ ("0a0002000500020000000500010000" with "0200000005" is ok (hex "0a00000001054014000000000000"))
-    ∷ ("02" with "0a000000000a000000000200000005" is no 6)
+    ∷ ("02" with "0a000000000a000000000200000005" is stop 6)
     ∷ []

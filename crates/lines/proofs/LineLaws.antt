@@ -11,7 +11,7 @@ use borrow.Rule.Slice.PartAt.{part-to-end}
 use lib.Dec.{ltb}
 use lib.ListN.{length, getD, take, drop, set, length-append, length-drop, drop-of-length-le, take-append-drop}
 use lib.Seq.{take-at, drop-at, drop-cons, drop-drop, set-at, length-take-le}
-use Rattle.base.specs.Base.{if_then_else_, ok, no}
+use Rattle.base.specs.Base.{if_then_else_, ok, stop}
 use Rattle.text.specs.Text.{Text, ascii}
 use Rattle.uuid.specs.Uuid.{hexBytes}
 use Rattle.hex.specs.Hex.{frameOf, hexOf, decimal}
@@ -80,9 +80,9 @@ pub length-ok : (r : List ℕ) → length (answerLine (ok r)) ≡ 2 * length r +
 unfolding answerLine ascii
 length-ok r = omega (arith, length-append (0x2b ∷ 0x20 ∷ hexOf r) (newline ∷ []), length-hexOf r)
 
-pub length-no : (n : ℕ) → length (answerLine (no n)) ≡ length (decimal n) + 3
+pub length-stop : (n : ℕ) → length (answerLine (stop n)) ≡ length (decimal n) + 3
 unfolding answerLine ascii
-length-no n = omega (arith, length-append (0x2d ∷ 0x20 ∷ decimal n) (newline ∷ []))
+length-stop n = omega (arith, length-append (0x2d ∷ 0x20 ∷ decimal n) (newline ∷ []))
 
 ok-same : (r o o' : List ℕ) (n : ℕ) → n + 3 ≡ length (answerLine (ok r)) → o' ≡ ((0x2b ∷ 0x20 ∷ []) ++ hexOf r ++ (newline ∷ [])) ++ drop (n + 3) o
     → o' ≡ answerLine (ok r) ++ drop (length (answerLine (ok r))) o
@@ -96,18 +96,18 @@ ok-line r o y o' m g w p =
     let e : 2 * length r + 3 ≡ length (answerLine (ok r)) = sym (length-ok r) in
     (p .0 ∙ e, ok-same r o o' (2 * length r) e (line-is (hexOf r) o y (2 * length r) (sym (length-hexOf r)) g w 0x2b 0x20 newline o' (p .1)))
 
-no-same : (k n : ℕ) (o o' : List ℕ) → n + 3 ≡ length (answerLine (no k)) → o' ≡ ((0x2d ∷ 0x20 ∷ []) ++ decimal k ++ (newline ∷ [])) ++ drop (n + 3) o
-    → o' ≡ answerLine (no k) ++ drop (length (answerLine (no k))) o
+stop-same : (k n : ℕ) (o o' : List ℕ) → n + 3 ≡ length (answerLine (stop k)) → o' ≡ ((0x2d ∷ 0x20 ∷ []) ++ decimal k ++ (newline ∷ [])) ++ drop (n + 3) o
+    → o' ≡ answerLine (stop k) ++ drop (length (answerLine (stop k))) o
 unfolding answerLine ascii
-no-same k n o o' e p = p ∙ ap (λ (j : ℕ). ((0x2d ∷ 0x20 ∷ []) ++ decimal k ++ (newline ∷ [])) ++ drop j o) e
+stop-same k n o o' e p = p ∙ ap (λ (j : ℕ). ((0x2d ∷ 0x20 ∷ []) ++ decimal k ++ (newline ∷ [])) ++ drop j o) e
 
 pub no-line : (k n m : ℕ) (o y o' : List ℕ) → n ≡ length (decimal k) → n + 3 ≤ length o → y ≡ decimal k ++ drop (length (decimal k)) (take (length o - 2) (drop 2 o))
     → (m ≡ n + 3) × (o' ≡ (0x2d ∷ 0x20 ∷ []) ++ take n (drop 2 (lent o y)) ++ (newline ∷ []) ++ drop (n + 3) (lent o y))
-    → (m ≡ length (answerLine (no k))) × (o' ≡ answerLine (no k) ++ drop (length (answerLine (no k))) o)
+    → (m ≡ length (answerLine (stop k))) × (o' ≡ answerLine (stop k) ++ drop (length (answerLine (stop k))) o)
 no-line k n m o y o' l g w p =
-    let e : n + 3 ≡ length (answerLine (no k)) = omega (arith, length-no k) in
+    let e : n + 3 ≡ length (answerLine (stop k)) = omega (arith, length-stop k) in
     let v : y ≡ decimal k ++ drop n (take (length o - 2) (drop 2 o)) = w ∙ ap (λ (j : ℕ). decimal k ++ drop j (take (length o - 2) (drop 2 o))) (sym l) in
-    (p .0 ∙ e, no-same k n o o' e (line-is (decimal k) o y n l g v 0x2d 0x20 newline o' (p .1)))
+    (p .0 ∙ e, stop-same k n o o' e (line-is (decimal k) o y n l g v 0x2d 0x20 newline o' (p .1)))
 
 -- ---- the frame of a line
 

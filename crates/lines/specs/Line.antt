@@ -3,7 +3,7 @@ use Prim.Native.Nat.{ℕ, _/_}
 use mathlib.Core.List.{List, [], _∷_, _++_}
 use lib.Dec.{ltb}
 use lib.ListN.{length}
-use Rattle.base.specs.Base.{if_then_else_, Result, ok, no}
+use Rattle.base.specs.Base.{if_then_else_, Result, ok, stop}
 use Rattle.text.specs.Text.{Text, ascii}
 use Rattle.hex.specs.Hex.{frameOf, hexOf, decimal}
 use Rattle.lines.specs.Cut.{newline}
@@ -15,4 +15,4 @@ heldFrame room l = if ltb room (length l / 2) then [] else frameOf l
 -- the line for an answer
 unfoldable pub answerLine : Result (List ℕ) → Text
 answerLine (ok r) = ascii "+ " ++ hexOf r ++ (newline ∷ [])
-answerLine (no n) = ascii "- " ++ decimal n ++ (newline ∷ [])
+answerLine (stop n) = ascii "- " ++ decimal n ++ (newline ∷ [])

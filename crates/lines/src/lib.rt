@@ -5,7 +5,7 @@ ghost use mathlib.Core.Path.{_≡_};
 ghost use mathlib.Core.List.{[], _∷_, _++_};
 ghost use Prim.Native.Nat.{_+_, _*_, _≤_, _<_};
 ghost use lib.ListN.{length, take, drop};
-ghost use Rattle.base.specs.Base.{ok, no};
+ghost use Rattle.base.specs.Base.{ok, stop};
 ghost use Rattle.lines.specs.Cut.{newline};
 ghost use Rattle.lines.specs.Line.{answerLine, heldFrame};
 
@@ -47,8 +47,8 @@ pub fn accepted(bytes: &[u8], out: &mut [u8]) -> usize
 // The line for the number of what stops a value, to the front of out; its length.
 pub fn refused(number: u8, out: &mut [u8]) -> usize
     requires { ⌜ (number < 100) × (5 ≤ length (now out)) ⌝ }
-    ensures { λ r. ⌜ r ≡ length (answerLine (no number)) ⌝ }
-    ensures { λ _. ⌜ now (out .exit) ≡ answerLine (no number) ++ drop (length (answerLine (no number))) (now (out .entry)) ⌝ }
+    ensures { λ r. ⌜ r ≡ length (answerLine (stop number)) ⌝ }
+    ensures { λ _. ⌜ now (out .exit) ≡ answerLine (stop number) ++ drop (length (answerLine (stop number))) (now (out .entry)) ⌝ }
 {
     let n = hex::decimal_to(number, &mut out[2..]);
     around(b'-', n, out)

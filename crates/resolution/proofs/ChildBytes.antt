@@ -10,7 +10,7 @@ use lib.Dec.{T}
 use lib.ListN.{length, getD, take, drop}
 use lib.Ieee.Fits.{and-l, and-r}
 use borrow.Author.Tests.{eq-eqb, ne-eqb}
-use Rattle.base.specs.Base.{Result, ok, no, after}
+use Rattle.base.specs.Base.{Result, ok, stop, after}
 use Rattle.number.specs.Number.{allBytes, numberAt, bytesOf}
 use Rattle.text.specs.Text.{Text}
 use Rattle.text.specs.Measured.{Reads}
@@ -41,8 +41,8 @@ count-entries f [] ws e = let q : noEntries ≡ ws = cc in sym (ap countEntries 
 count-entries f (x ∷ xs) ws e = go (f (x .1)) (eachEntry f (entriesOf xs)) (λ us. count-entries f xs us) e
   where
     go : (o : Outcome) (y : Result Entries) → ((us : Entries) → y ≡ ok us → countEntries us ≡ length xs) → after o (λ r. after y (λ rs. ok (entry (x .0) r rs))) ≡ ok ws → countEntries ws ≡ suc (length xs)
-    go (no k) y ih q = absurd (no-ok k ws (unfold after in q))
-    go (ok r) (no k) ih q = absurd (no-ok k ws (unfold after in q))
+    go (stop k) y ih q = absurd (no-ok k ws (unfold after in q))
+    go (ok r) (stop k) ih q = absurd (no-ok k ws (unfold after in q))
     go (ok r) (ok us) ih q =
         let q' : _≡_ {A = Result Entries} (ok (entry (x .0) r us)) (ok ws) = unfold after in q in
         let h : entry (x .0) r us ≡ ws = cc in
@@ -55,8 +55,8 @@ entries-each t (x ∷ xs) = go (resolve t (x .1)) (eachEntry (λ x. resolve t x)
   where
     go : (o : Outcome) (y : Result Entries) (z : Result (List ℕ)) → after y (λ ws. ok (encodeEntries ws)) ≡ z
         → after (after o (λ r. after y (λ rs. ok (entry (x .0) r rs)))) (λ ws. ok (encodeEntries ws)) ≡ after (after (encoded o) (λ b. ok (writeText (x .0) ++ b))) (λ b. front b z)
-    go (no k) y z h = refl
-    go (ok r) (no k) z h = rw (← h)
+    go (stop k) y z h = refl
+    go (ok r) (stop k) z h = rw (← h)
     go (ok r) (ok us) z h = rw (← h)
 
 map-whole : (t : Schema) (xs : List (Text × Value)) (h : List ℕ) → h ≡ 9 ∷ bytesOf 2 (length xs) → peeledBytes (Schema.Map t) (Value.Map (entriesOf xs)) ≡ front h (eachBytes (entryBytes t) xs)
@@ -64,15 +64,15 @@ unfolding peeledBytes resolvePeeled resolve peel resolve-map kindOf entries
 map-whole t xs h e = go (eachEntry (λ x. resolve t x) (entriesOf xs)) refl ∙ ap (front h) (entries-each t xs)
   where
     go : (o : Result Entries) → eachEntry (λ x. resolve t x) (entriesOf xs) ≡ o → encoded (after o (λ vs. ok (Value.Map vs))) ≡ front h (after o (λ ws. ok (encodeEntries ws)))
-    go (no k) q = unfold after encoded in refl
+    go (stop k) q = unfold after encoded in refl
     go (ok ws) q = unfold after encoded encodeValue in rw (e, count-entries (λ x. resolve t x) xs ws q)
 
-map-other : (t : Schema) (w : Value) → (kindOf w ≡ 9 → ⊥) → peeledBytes (Schema.Map t) w ≡ no 6
+map-other : (t : Schema) (w : Value) → (kindOf w ≡ 9 → ⊥) → peeledBytes (Schema.Map t) w ≡ stop 6
 unfolding peeledBytes resolvePeeled resolve peel resolve-map encoded
 map-other t w f = rw (ne-eqb (kindOf w) 9 f)
 
 module _ (ds dv : ℕ) (s v : List ℕ) (r : Ready ds s) (pv : Reads (readValue dv v)) (es : getD s 0 0 ≡ 9) (b : T (allBytes v)) where
-  pub map-no : (getD v 0 0 ≡ 9 → ⊥) → onBoth peeledBytes (readSchema ds s) (readValue dv v) ≡ no 6
+  pub map-no : (getD v 0 0 ≡ 9 → ⊥) → onBoth peeledBytes (readSchema ds s) (readValue dv v) ≡ stop 6
   unfolding Reads
   map-no f =
       let i = value-inv ds s r es in
@@ -111,7 +111,7 @@ fields-next f fs es = go (fieldValue (lookup (f .0) es) (f .1) (λ w. startDefau
   where
     go : (o : Outcome) → after o (λ v. after (resolve (f .2) v) (λ r. after (resolveFields (fieldsOf fs) es) (λ rs. ok (entry (f .0) r rs))))
         ≡ after (after o (λ v. resolve (f .2) v)) (λ r. after (resolveFields (fieldsOf fs) es) (λ rs. ok (entry (f .0) r rs)))
-    go (no k) = unfold after in refl
+    go (stop k) = unfold after in refl
     go (ok v) = unfold after in refl
 
 field-outcome : (f : Field) (w : Value) → fieldBytes f w ≡ after (encoded (fieldOutcome f (entries w))) (λ b. ok (writeText (f .0) ++ b))
@@ -119,7 +119,7 @@ unfolding fieldBytes nodeBytes
 field-outcome f w = go (fieldValue (lookup (f .0) (entries w)) (f .1) (λ d. startDefault (f .2) d))
   where
     go : (o : Outcome) → after o (λ x. after (encoded (resolve (f .2) x)) (λ b. ok (writeText (f .0) ++ b))) ≡ after (encoded (after o (λ v. resolve (f .2) v))) (λ b. ok (writeText (f .0) ++ b))
-    go (no k) = unfold after encoded in refl
+    go (stop k) = unfold after encoded in refl
     go (ok v) = unfold after in refl
 
 count-none : (es ws : Entries) → resolveFields (fieldsOf []) es ≡ ok ws → countEntries ws ≡ 0
@@ -131,8 +131,8 @@ count-fields [] es ws e = count-none es ws e
 count-fields (f ∷ fs) es ws e = go (fieldOutcome f es) (resolveFields (fieldsOf fs) es) (λ us. count-fields fs es us) (sym (fields-next f fs es) ∙ e)
   where
     go : (o : Outcome) (y : Result Entries) → ((us : Entries) → y ≡ ok us → countEntries us ≡ length fs) → after o (λ r. after y (λ rs. ok (entry (f .0) r rs))) ≡ ok ws → countEntries ws ≡ suc (length fs)
-    go (no k) y ih q = absurd (no-ok k ws (unfold after in q))
-    go (ok r) (no k) ih q = absurd (no-ok k ws (unfold after in q))
+    go (stop k) y ih q = absurd (no-ok k ws (unfold after in q))
+    go (ok r) (stop k) ih q = absurd (no-ok k ws (unfold after in q))
     go (ok r) (ok us) ih q =
         let q' : _≡_ {A = Result Entries} (ok (entry (f .0) r us)) (ok ws) = unfold after in q in
         let h : entry (f .0) r us ≡ ws = cc in
@@ -147,8 +147,8 @@ fields-each (f ∷ fs) w =
   where
     go : (o : Outcome) (y : Result Entries) (z : Result (List ℕ)) → after y (λ ws. ok (encodeEntries ws)) ≡ z
         → after (after o (λ r. after y (λ rs. ok (entry (f .0) r rs)))) (λ ws. ok (encodeEntries ws)) ≡ after (after (encoded o) (λ b. ok (writeText (f .0) ++ b))) (λ b. front b z)
-    go (no k) y z h = unfold after encoded in refl
-    go (ok r) (no k) z h = unfold after encoded in rw (← h)
+    go (stop k) y z h = unfold after encoded in refl
+    go (ok r) (stop k) z h = unfold after encoded in rw (← h)
     go (ok r) (ok us) z h = unfold after encoded encodeValue in rw (← h)
 
 record-whole : (fs : List Field) (w : Value) (h : List ℕ) → (kindOf w ≡ 9) ⊎ (kindOf w ≡ 11) → h ≡ 11 ∷ bytesOf 2 (length fs) → peeledBytes (Schema.Record (fieldsOf fs)) w ≡ front h (eachBytes (λ f. fieldBytes f w) fs)
@@ -157,13 +157,13 @@ record-whole fs w h k e =
     ⊎-elim (λ p. rw (eq-eqb (kindOf w) 9 p) main) (λ p. rw (eq-eqb (kindOf w) 11 p, ne-eqb (kindOf w) 9 (λ q. omega arith)) main) k
   where
     go : (o : Result Entries) → resolveFields (fieldsOf fs) (entries w) ≡ o → encoded (after o (λ vs. ok (Value.Record vs))) ≡ front h (after o (λ ws. ok (encodeEntries ws)))
-    go (no k) q = unfold after encoded in refl
+    go (stop k) q = unfold after encoded in refl
     go (ok ws) q = unfold after encoded encodeValue in rw (e, count-fields fs (entries w) ws q)
 
     main : encoded (after (resolveFields (fieldsOf fs) (entries w)) (λ vs. ok (Value.Record vs))) ≡ front h (eachBytes (λ f. fieldBytes f w) fs)
     main = go (resolveFields (fieldsOf fs) (entries w)) refl ∙ ap (front h) (fields-each fs w)
 
-record-other : (fs : Fields) (w : Value) → (kindOf w ≡ 9 → ⊥) → (kindOf w ≡ 11 → ⊥) → peeledBytes (Schema.Record fs) w ≡ no 6
+record-other : (fs : Fields) (w : Value) → (kindOf w ≡ 9 → ⊥) → (kindOf w ≡ 11 → ⊥) → peeledBytes (Schema.Record fs) w ≡ stop 6
 unfolding peeledBytes resolvePeeled resolve peel resolve-record encoded
 record-other fs w f g = rw (ne-eqb (kindOf w) 9 f, ne-eqb (kindOf w) 11 g)
 
@@ -174,7 +174,7 @@ module _ (ds : ℕ) (s : List ℕ) (r : Ready ds s) (es : getD s 0 0 ≡ 11) whe
   pub fields-long : 3 ≤ length s
   fields-long = schema-fields ds s (ready-reads ds s r) es .0
 
-  pub record-no : (dv : ℕ) (v : List ℕ) → Reads (readValue dv v) → T (allBytes v) → (getD v 0 0 ≡ 11 → ⊥) → (getD v 0 0 ≡ 9 → ⊥) → onBoth peeledBytes (readSchema ds s) (readValue dv v) ≡ no 6
+  pub record-no : (dv : ℕ) (v : List ℕ) → Reads (readValue dv v) → T (allBytes v) → (getD v 0 0 ≡ 11 → ⊥) → (getD v 0 0 ≡ 9 → ⊥) → onBoth peeledBytes (readSchema ds s) (readValue dv v) ≡ stop 6
   unfolding Reads
   record-no dv v pv b g f =
       let i = fields-inv in

@@ -9,7 +9,7 @@ use lib.ListN.{length, getD, take, drop, length-drop, take-append-drop}
 use lib.Seq.{getD-drop}
 use lib.Ieee.Fits.{and-l}
 use borrow.Author.Tests.{eq-eqb, ne-eqb}
-use Rattle.base.specs.Base.{if_then_else_, ok, no, after}
+use Rattle.base.specs.Base.{if_then_else_, ok, stop, after}
 use Rattle.number.specs.Number.{allBytes, bigEndian, numberAt}
 use Rattle.number.proofs.Laws.{allBytes-drop}
 use Rattle.text.specs.Read.{_>>=_, readBytes, readNumber}
@@ -165,7 +165,7 @@ module _ (ds : ℕ) (s d : List ℕ) (rd : ReadyDefault ds s d) (e : getD s 0 0 
       ∙ go (starts (fv .lead) (rd .value))
     where
       go : (o : Outcome) → after (after o (λ r. ok (Value.Union 0 r))) (λ w. nodeBytes tree w) ≡ after o (λ r. peeledBytes tree r)
-      go (no k) = unfold after in refl
+      go (stop k) = unfold after in refl
       go (ok r) = unfold after in union-peel tree r
 
   pub default-null : (n : List ℕ) → n ≡ 0 ∷ [] → getD s 3 0 ≡ 0 → onBoth defaultBytes (readSchema ds s) (readValue 16 d) ≡ onBoth peeledBytes (readSchema ds s) (readValue 1 n)
@@ -190,7 +190,7 @@ module _ (ds : ℕ) (s d : List ℕ) (rd : ReadyDefault ds s d) (e : getD s 0 0 
       where
         go : (x : Outcome) → Wrote (encoded x) z (Refused k) → Wrote (after x (λ r. peeledBytes tree r)) o (Refused k)
         go (ok r) w = absurd (unfold encoded Wrote in w)
-        go (no m) w = unfold encoded Wrote after in w
+        go (stop m) w = unfold encoded Wrote after in w
 
     module _ (bs : T (allBytes s)) (bd : T (allBytes d)) (z : List ℕ) (m : ℕ) (w : Wrote (onBoth nodeBytes (readSchema (ds - 1) (drop 3 s)) (readValue 16 d)) z (Accepted m)) (l : length z ≡ 4096) where
       made : (r : Value) × ((resolve (fv .lead) (rd .value) ≡ ok r) × Built (encodeValue r) z m)
@@ -198,7 +198,7 @@ module _ (ds : ℕ) (s d : List ℕ) (rd : ReadyDefault ds s d) (e : getD s 0 0 
         where
           go : (x : Outcome) → Wrote (encoded x) z (Accepted m) → (r : Value) × ((x ≡ ok r) × Built (encodeValue r) z m)
           go (ok r) w = (r, (refl, unfold encoded Wrote in w))
-          go (no k) w = absurd (unfold encoded Wrote in w)
+          go (stop k) w = absurd (unfold encoded Wrote in w)
 
       made-held : T (held (made .0) (ds - 1))
       made-held =

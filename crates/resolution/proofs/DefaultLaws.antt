@@ -10,7 +10,7 @@ use lib.ListN.{length, getD, drop, length-drop}
 use lib.Seq.{drop-drop}
 use lib.Ieee.Fits.{and-l, and-r}
 use borrow.Author.Tests.{le-leb, lt-leb, leb-true, leb-false, eq-eqb, ne-eqb}
-use Rattle.base.specs.Base.{ok, no, after}
+use Rattle.base.specs.Base.{ok, stop, after}
 use Rattle.number.specs.Number.{bytesOf}
 use Rattle.frame.specs.Tree.{Value, Schema, Variants, variant, is, kindOf, peel, schemaKind}
 use Rattle.frame.specs.ValueFrame.{table, readValue, encodeValue, writeScalar}
@@ -82,12 +82,12 @@ capped n m e = go (leb m 4096) refl
 outcome-accepted : (x : Outcome) (o : List ℕ) (n : ℕ) → Wrote (encoded x) o (Accepted n) → leb n 4096 ≡ shortStart (after x (λ r. ok (Value.Union 0 r)))
 unfolding Wrote Built encoded shortStart after kindOf peel
 outcome-accepted (ok v) o n w = capped n (length (encodeValue v)) (w .0)
-outcome-accepted (no k) o n w = absurd w
+outcome-accepted (stop k) o n w = absurd w
 
 outcome-refused : (x : Outcome) (o : List ℕ) (k : ℕ) → Wrote (encoded x) o (Refused k) → true ≡ shortStart (after x (λ r. ok (Value.Union 0 r)))
 unfolding Wrote encoded shortStart after
 outcome-refused (ok v) o k w = absurd w
-outcome-refused (no j) o k w = refl
+outcome-refused (stop j) o k w = refl
 
 module _ (d : ℕ) (s v : List ℕ) (w : Ready d s) (g : SoundRead defaultKinds (readValue 16 v)) where
   start-is : shortStart (onBoth startDefault (readSchema d s) (readValue 16 v)) ≡ shortStart (startDefault (w .tree) (g .tree))

@@ -8,7 +8,7 @@ use native.Mathlib.Omega.{arith}
 use lib.Dec.{T}
 use lib.ListN.{length, take, drop, length-drop}
 use lib.Seq.{length-take-le, take-add}
-use Rattle.base.specs.Base.{Result, ok, no, after}
+use Rattle.base.specs.Base.{Result, ok, stop, after}
 use Rattle.number.specs.Number.{allBytes, bigEndian, numberAt, bytesOf}
 use Rattle.number.proofs.Laws.{allBytes-take, bytesOf-bigEndian}
 use Rattle.text.specs.Read.{Read, readCounted, readText}
@@ -87,7 +87,7 @@ ready-field-reads ds s r = reads-some (r .name, r .default, r .tree) (r .rest) (
 
 front-after : {A : Type 0} (h : List ℕ) (o : Result A) (g : A → Result (List ℕ)) → after o (λ y. front h (g y)) ≡ front h (after o g)
 unfolding after
-front-after h (no k) g = refl
+front-after h (stop k) g = refl
 front-after h (ok a) g = refl
 
 -- the default of a field that has one
@@ -161,7 +161,7 @@ module _ (ds : ℕ) (s : List ℕ) (rf : ReadyField ds s) (f : FieldAt) (fp : Fi
       not-found : entryUnder x (readValue dv v) ≡ none
       not-found = located-nothing (entryUnder x (readValue dv v)) (dv - 1) v l
 
-      pub field-none : f .default ≡ false → onBoth fieldBytes (readField (readSchema ds) s) (readValue dv v) ≡ no 17
+      pub field-none : f .default ≡ false → onBoth fieldBytes (readField (readSchema ds) s) (readValue dv v) ≡ stop 17
       unfolding fieldValue after
       field-none h = field-open none not-found ∙ ap (λ y. after (fieldValue none y (λ d. startDefault (fp .tree) d)) (λ y. front (take (length x + 2) s) (nodeBytes (fp .tree) y))) (default-none s (f .«default_at») (fp .default) (rw h at (fp .default-at)))
 

@@ -8,7 +8,7 @@ use lib.Dec.{T}
 use lib.ListN.{length, getD, take, drop}
 use lib.Seq.{length-take-le}
 use borrow.Author.Tests.{ne-eqb}
-use Rattle.base.specs.Base.{Result, ok, no, after}
+use Rattle.base.specs.Base.{Result, ok, stop, after}
 use Rattle.number.specs.Number.{allBytes, bigEndian, numberAt, bytesOf}
 use Rattle.number.proofs.Laws.{allBytes-take, allBytes-tail, bytesOf-bigEndian}
 use Rattle.text.specs.Read.{Read}
@@ -101,7 +101,7 @@ head-bytes (x ∷ s) k b h e =
     let q : bytesOf (length (take 2 s)) (bigEndian (take 2 s)) ≡ take 2 s = bytesOf-bigEndian (take 2 s) (allBytes-take 2 s (allBytes-tail x s b)) in
     ap (λ (j : ℕ). j ∷ take 2 s) e ∙ ap (λ (t : List ℕ). k ∷ t) (sym q ∙ ap (λ (j : ℕ). bytesOf j (bigEndian (take 2 s))) l)
 
-pub no-ok : {A : Type 0} (k : ℕ) (a : A) → _≡_ {A = Result A} (no k) (ok a) → ⊥
+pub no-ok : {A : Type 0} (k : ℕ) (a : A) → _≡_ {A = Result A} (stop k) (ok a) → ⊥
 no-ok k a e = let z : _≡_ {A = ℕ} 0 1 = cc in omega arith
 
 -- ---- arrays
@@ -112,8 +112,8 @@ count-items f [] ws e = let q : noItems ≡ ws = cc in sym (ap countItems q)
 count-items f (x ∷ xs) ws e = go (f x) (eachItem f (itemsOf xs)) (λ us. count-items f xs us) e
   where
     go : (o : Outcome) (y : Result Values) → ((us : Values) → y ≡ ok us → countItems us ≡ length xs) → after o (λ r. after y (λ rs. ok (item r rs))) ≡ ok ws → countItems ws ≡ suc (length xs)
-    go (no k) y ih q = absurd (no-ok k ws (unfold after in q))
-    go (ok r) (no k) ih q = absurd (no-ok k ws (unfold after in q))
+    go (stop k) y ih q = absurd (no-ok k ws (unfold after in q))
+    go (ok r) (stop k) ih q = absurd (no-ok k ws (unfold after in q))
     go (ok r) (ok us) ih q =
         let q' : _≡_ {A = Result Values} (ok (item r us)) (ok ws) = unfold after in q in
         let h : item r us ≡ ws = cc in
@@ -126,8 +126,8 @@ items-each f (x ∷ xs) = go (f x) (eachItem f (itemsOf xs)) (eachBytes (λ v. e
   where
     go : (o : Outcome) (y : Result Values) (z : Result (List ℕ)) → after y (λ ws. ok (encodeItems ws)) ≡ z
         → after (after o (λ r. after y (λ rs. ok (item r rs)))) (λ ws. ok (encodeItems ws)) ≡ after (encoded o) (λ b. front b z)
-    go (no k) y z h = refl
-    go (ok r) (no k) z h = rw (← h)
+    go (stop k) y z h = refl
+    go (ok r) (stop k) z h = rw (← h)
     go (ok r) (ok us) z h = rw (← h)
 
 array-whole : (t : Schema) (xs : List Value) (h : List ℕ) → h ≡ 8 ∷ bytesOf 2 (length xs) → peeledBytes (Schema.Array t) (Value.Array (itemsOf xs)) ≡ front h (eachBytes (nodeBytes t) xs)
@@ -135,15 +135,15 @@ unfolding peeledBytes nodeBytes resolvePeeled resolve peel resolve-array kindOf 
 array-whole t xs h e = go (eachItem (λ x. resolve t x) (itemsOf xs)) refl ∙ ap (front h) (items-each (λ x. resolve t x) xs)
   where
     go : (o : Result Values) → eachItem (λ x. resolve t x) (itemsOf xs) ≡ o → encoded (after o (λ vs. ok (Value.Array vs))) ≡ front h (after o (λ ws. ok (encodeItems ws)))
-    go (no k) q = unfold after encoded in refl
+    go (stop k) q = unfold after encoded in refl
     go (ok ws) q = unfold after encoded encodeValue in rw (e, count-items (λ x. resolve t x) xs ws q)
 
-array-other : (t : Schema) (w : Value) → (kindOf w ≡ 8 → ⊥) → peeledBytes (Schema.Array t) w ≡ no 6
+array-other : (t : Schema) (w : Value) → (kindOf w ≡ 8 → ⊥) → peeledBytes (Schema.Array t) w ≡ stop 6
 unfolding peeledBytes resolvePeeled resolve peel resolve-array encoded
 array-other t w f = rw (ne-eqb (kindOf w) 8 f)
 
 module _ (ds dv : ℕ) (s v : List ℕ) (r : Ready ds s) (pv : Reads (readValue dv v)) (es : getD s 0 0 ≡ 8) (b : T (allBytes v)) where
-  pub array-no : (getD v 0 0 ≡ 8 → ⊥) → onBoth peeledBytes (readSchema ds s) (readValue dv v) ≡ no 6
+  pub array-no : (getD v 0 0 ≡ 8 → ⊥) → onBoth peeledBytes (readSchema ds s) (readValue dv v) ≡ stop 6
   unfolding Reads
   array-no f =
       let i = item-inv ds s r es in

@@ -10,7 +10,7 @@ use lib.ListN.{length, take, drop, length-drop}
 use lib.Seq.{drop-drop}
 use borrow.Rule.Slice.PartAt.{part-to-end}
 use borrow.Author.Tests.{leb-true, leb-false}
-use Rattle.base.specs.Base.{Result, ok, no, after}
+use Rattle.base.specs.Base.{Result, ok, stop, after}
 use Rattle.text.specs.Read.{Read, _>>=_}
 use Rattle.text.specs.Measured.{Reads}
 use Rattle.frame.specs.Readers.{readMany}
@@ -32,7 +32,7 @@ wrote-eq x y o r e w = subst (λ u. Wrote u o r) (sym e) w
 pub accepted-small : (x : Result (List ℕ)) (o : List ℕ) (m : ℕ) → Wrote x o (Accepted m) → m ≤ 65536
 unfolding Wrote
 accepted-small (ok b) o m w = built-small b o m w
-accepted-small (no e) o m w = absurd w
+accepted-small (stop e) o m w = absurd w
 
 -- ---- what two parts hold
 
@@ -42,11 +42,11 @@ both-some f x y a b r u p q = rw (p, q)
 
 -- f, with what the first part holds, or the second
 unfoldable pub onFirst : {A B C : Type 0} → (A → B → Result C) → Read A → B → Result C
-onFirst f none b = no 0
+onFirst f none b = stop 0
 onFirst f (some x) b = f (x .0) b
 
 unfoldable pub onSecond : {A B C : Type 0} → (A → B → Result C) → Read B → A → Result C
-onSecond f none a = no 0
+onSecond f none a = stop 0
 onSecond f (some y) a = f a (y .0)
 
 pub both-first : {A B C : Type 0} (f : A → B → Result C) (x : Read A) (y : Read B) → onRead (onFirst f x) y ≡ onBoth f x y
@@ -82,14 +82,14 @@ going-small whole y n rest g = built-small (g .done) y n (g .built)
 
 front-front : (p b : List ℕ) (x : Result (List ℕ)) → front p (front b x) ≡ front (p ++ b) x
 unfolding after
-front-front p b (no e) = refl
+front-front p b (stop e) = refl
 front-front p b (ok c) = ap ok (sym (append-assoc p b c))
 
 -- one part more is accepted
 pub going-step : (whole x rest rest' : Result (List ℕ)) (y z : List ℕ) (n m k r : ℕ) → Going whole y n rest → rest ≡ after x (λ b. front b rest') → k ≡ min n (length y)
     → length z ≡ length y - k → Wrote x z (Accepted m) → r ≡ min (n + m) 65536 → Going whole (take k y ++ z) r rest'
 unfolding Wrote after
-going-step whole (no e) rest rest' y z n m k r g q h l w i = absurd w
+going-step whole (stop e) rest rest' y z n m k r g q h l w i = absurd w
 going-step whole (ok b) rest rest' y z n m k r g q h l w i = record {
   done = g .done ++ b;
   built = built-append (g .done) b y z n m k r (g .built) h l w i;
@@ -99,7 +99,7 @@ going-step whole (ok b) rest rest' y z n m k r g q h l w i = record {
 -- a part is refused
 pub going-no : (whole x rest : Result (List ℕ)) (f : List ℕ → Result (List ℕ)) (y z o : List ℕ) (n e : ℕ) → Going whole y n rest → rest ≡ after x f → Wrote x z (Refused e) → Wrote whole o (Refused e)
 unfolding Wrote after
-going-no whole (no k) rest f y z o n e g q w = subst (λ v. Wrote v o (Refused e)) (sym (g .goes ∙ ap (front (g .done)) q)) w
+going-no whole (stop k) rest f y z o n e g q w = subst (λ v. Wrote v o (Refused e)) (sym (g .goes ∙ ap (front (g .done)) q)) w
 going-no whole (ok b) rest f y z o n e g q w = absurd w
 
 -- nothing is to follow
@@ -109,7 +109,7 @@ going-end whole rest y n g q = subst (λ v. Wrote v y (Accepted n)) (sym (g .goe
 
 last-part : (x : Result (List ℕ)) → x ≡ after x (λ b. front b (ok []))
 unfolding after
-last-part (no e) = refl
+last-part (stop e) = refl
 last-part (ok b) = ap ok (sym (append-nil b))
 
 -- how many bytes a lent tail has
@@ -124,7 +124,7 @@ wrote-last whole x p y z n m k r b e h l w i =
 
 pub wrote-last-no : (whole x : Result (List ℕ)) (p z o : List ℕ) (e : ℕ) → whole ≡ front p x → Wrote x z (Refused e) → Wrote whole o (Refused e)
 unfolding Wrote after
-wrote-last-no whole (no k) p z o e q w = subst (λ v. Wrote v o (Refused e)) (sym q) w
+wrote-last-no whole (stop k) p z o e q w = subst (λ v. Wrote v o (Refused e)) (sym q) w
 wrote-last-no whole (ok b) p z o e q w = absurd w
 
 -- ---- many things

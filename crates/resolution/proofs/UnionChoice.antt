@@ -9,7 +9,7 @@ use lib.Dec.{T, leb, ltb, eqb, ltb→lt}
 use lib.ListN.{length, drop, getD}
 use lib.Ieee.Fits.{and-l, and-r}
 use borrow.Author.Tests.{eq-eqb, ne-eqb, lt-ltb, le-ltb, ltb-true, ltb-false, eqb-true}
-use Rattle.base.specs.Base.{if_then_else_, ok, no, after, accepted}
+use Rattle.base.specs.Base.{if_then_else_, ok, stop, after, accepted}
 use Rattle.number.specs.Number.{bytesOf}
 use Rattle.frame.specs.Kind
 use Rattle.frame.specs.Tree.{Value, Schema, Variants, kindOf, schemaKind, peel}
@@ -108,33 +108,33 @@ lookup-below n least (x ∷ ks) k i t e = go (λ u f. lookup-below n (suc (x .0)
 pub answer-accepted : (x : Outcome) (o : List ℕ) (m : ℕ) → Wrote (encoded x) o (Accepted m) → accepted x ≡ true
 unfolding Wrote encoded accepted
 answer-accepted (ok v) o m w = refl
-answer-accepted (no e) o m w = absurd w
+answer-accepted (stop e) o m w = absurd w
 
 pub answer-refused : (x : Outcome) (o : List ℕ) (e : ℕ) → Wrote (encoded x) o (Refused e) → accepted x ≡ false
 unfolding Wrote encoded accepted
 answer-refused (ok v) o e w = absurd w
-answer-refused (no n) o e w = refl
+answer-refused (stop n) o e w = refl
 
 -- a variant's bytes behind its index
 outcome-index : (x : Outcome) (i : ℕ) (o o' : List ℕ) (m n : ℕ) → Wrote (encoded x) o (Accepted m) → ((c : List ℕ) → Built c o m → Built (10 ∷ bytesOf 4 i ++ c) o' n) → Wrote (encoded (after x (λ r. ok (Value.Union i r)))) o' (Accepted n)
 unfolding Wrote encoded after encodeValue
 outcome-index (ok v) i o o' m n w f = f (encodeValue v) w
-outcome-index (no e) i o o' m n w f = absurd w
+outcome-index (stop e) i o o' m n w f = absurd w
 
 outcome-refused : (x : Outcome) (i : ℕ) (o o' : List ℕ) (e : ℕ) → Wrote (encoded x) o (Refused e) → Wrote (encoded (after x (λ r. ok (Value.Union i r)))) o' (Refused e)
 unfolding Wrote encoded after
 outcome-refused (ok v) i o o' e w = absurd w
-outcome-refused (no n) i o o' e w = w
+outcome-refused (stop n) i o o' e w = w
 
 outcome-accepted : (x : Outcome) (i : ℕ) (o : List ℕ) (n : ℕ) → Wrote (encoded (after x (λ r. ok (Value.Union i r)))) o (Accepted n) → accepted x ≡ true
 unfolding Wrote encoded after accepted
 outcome-accepted (ok v) i o n w = refl
-outcome-accepted (no e) i o n w = absurd w
+outcome-accepted (stop e) i o n w = absurd w
 
 outcome-not : (x : Outcome) (i : ℕ) (o : List ℕ) (e : ℕ) → Wrote (encoded (after x (λ r. ok (Value.Union i r)))) o (Refused e) → accepted x ≡ false
 unfolding Wrote encoded after accepted
 outcome-not (ok v) i o e w = absurd w
-outcome-not (no n) i o e w = refl
+outcome-not (stop n) i o e w = refl
 
 module _ (ts : List Trial) (i : ℕ) where
   pub indexed : (o o' : List ℕ) (m n : ℕ) → Wrote (encoded (getD ts i noTrial .outcome)) o (Accepted m) → ((c : List ℕ) → Built c o m → Built (10 ∷ bytesOf 4 i ++ c) o' n) → Wrote (encoded (inUnion ts (some i))) o' (Accepted n)

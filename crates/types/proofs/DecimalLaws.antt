@@ -8,7 +8,7 @@ use native.Mathlib.Omega.{arith}
 use borrow.Author.Tests.{ne-eqb, lt-ltb, le-ltb}
 use lib.Dec.{leb, eqb}
 use lib.ListN.{length}
-use Rattle.base.specs.Base.{if_then_else_, Result, ok, no, after}
+use Rattle.base.specs.Base.{if_then_else_, Result, ok, stop, after}
 use Rattle.utf8.specs.Utf8.{isUtf8, codePoints, pointsFrom, ended, stepOf, digitsOf, allLatin1}
 use Rattle.decimal.specs.Decimal.{tooShortFor}
 use Rattle.frame.specs.Kind
@@ -42,12 +42,12 @@ length-points s = go (isUtf8 s) _ (points-below _ 0 s)
 
 -- ---- code points as bytes
 
-pointBytes-is : (ps : List ℕ) → pointBytes ps ≡ (if allLatin1 ps then ok ps else no 6)
+pointBytes-is : (ps : List ℕ) → pointBytes ps ≡ (if allLatin1 ps then ok ps else stop 6)
 unfolding pointBytes allLatin1
 pointBytes-is [] = refl
 pointBytes-is (p ∷ ps) = rw (pointBytes-is ps) (go (leb p 255) (allLatin1 ps))
   where
-    go : (a b : Bool) → _≡_ {A = Result (List ℕ)} (if a then after (if b then ok ps else no 6) (λ s. ok (p ∷ s)) else no 6) (if a && b then ok (p ∷ ps) else no 6)
+    go : (a b : Bool) → _≡_ {A = Result (List ℕ)} (if a then after (if b then ok ps else stop 6) (λ s. ok (p ∷ s)) else stop 6) (if a && b then ok (p ∷ ps) else stop 6)
     go true true = unfold after in refl
     go true false = unfold after in refl
     go false b = refl
@@ -62,25 +62,25 @@ unfolding after
 decimal-accepted t u h = rw (text-points t u, pointBytes-is (points t), h)
 
 pub decimal-refused : (t : List ℕ) → isUtf8 t ≡ true → allLatin1 (points t) ≡ false
-    → after (textPoints (codePoints t)) (λ s. ok (Value.Octets Kind.Decimal s)) ≡ no 6
+    → after (textPoints (codePoints t)) (λ s. ok (Value.Octets Kind.Decimal s)) ≡ stop 6
 unfolding after
 decimal-refused t u h = rw (text-points t u, pointBytes-is (points t), h)
 
 -- ---- resolve_decimal, way by way
 
 module _ (p c : ℕ) (size : Option ℕ) where
-  pub decimal-scale : (w : Value) → p < c → resolve-decimal p c size w ≡ no 12
+  pub decimal-scale : (w : Value) → p < c → resolve-decimal p c size w ≡ stop 12
   unfolding resolve-decimal
   decimal-scale w h = rw (lt-ltb p c h)
 
   module _ (h : c ≤ p) where
-    pub decimal-size : (w : Value) → fixedTooShort p size ≡ true → resolve-decimal p c size w ≡ no 13
+    pub decimal-size : (w : Value) → fixedTooShort p size ≡ true → resolve-decimal p c size w ≡ stop 13
     unfolding resolve-decimal
     decimal-size w g = rw (le-ltb p c h, g)
 
     module _ (g : fixedTooShort p size ≡ false) where
       pub decimal-bytes : (k : ℕ) (t : List ℕ) → (eqb k Kind.Decimal || eqb k Kind.Fixed || eqb k Kind.Bytes) ≡ true
-          → resolve-decimal p c size (Value.Octets k t) ≡ (if tooShortFor p (length t) then no 14 else ok (Value.Octets Kind.Decimal t))
+          → resolve-decimal p c size (Value.Octets k t) ≡ (if tooShortFor p (length t) then stop 14 else ok (Value.Octets Kind.Decimal t))
       unfolding resolve-decimal kindOf octets
       decimal-bytes k t e = rw (le-ltb p c h, g, e)
 
@@ -88,6 +88,6 @@ module _ (p c : ℕ) (size : Option ℕ) where
       unfolding resolve-decimal kindOf octets
       decimal-String t = rw (le-ltb p c h, g)
 
-      pub decimal-other : (k : ℕ) (w : Value) → kindOf w ≡ k → (k ≡ Kind.Decimal → ⊥) → (k ≡ Kind.Fixed → ⊥) → (k ≡ Kind.Bytes → ⊥) → (k ≡ Kind.String → ⊥) → resolve-decimal p c size w ≡ no 6
+      pub decimal-other : (k : ℕ) (w : Value) → kindOf w ≡ k → (k ≡ Kind.Decimal → ⊥) → (k ≡ Kind.Fixed → ⊥) → (k ≡ Kind.Bytes → ⊥) → (k ≡ Kind.String → ⊥) → resolve-decimal p c size w ≡ stop 6
       unfolding resolve-decimal
       decimal-other k w e f1 f2 f3 f4 = rw (le-ltb p c h, g, e, ne-eqb k 14 f1, ne-eqb k 13 f2, ne-eqb k 6 f3, ne-eqb k 7 f4)

@@ -5,7 +5,7 @@ use mathlib.Core.Option.{Option, none, some}
 use mathlib.Core.Bool.{Bool, false, _||_}
 use lib.Dec.{leb, ltb, eqb}
 use lib.ListN.{length}
-use Rattle.base.specs.Base.{if_then_else_, Result, ok, no, _>>=_}
+use Rattle.base.specs.Base.{if_then_else_, Result, ok, stop, _>>=_}
 use Rattle.text.specs.Text.{Text, same}
 use Rattle.utf8.specs.Utf8.{isUtf8, codePoints}
 use Rattle.decimal.specs.Decimal.{tooShortFor}
@@ -20,26 +20,26 @@ Outcome = Result Value
 -- ---- scalars
 
 unfoldable pub resolve-null : Value → Outcome
-resolve-null v = if is Kind.Null v then ok v else no 6
+resolve-null v = if is Kind.Null v then ok v else stop 6
 
 unfoldable pub resolve-boolean : Value → Outcome
-resolve-boolean v = if is Kind.Boolean v then ok v else no 6
+resolve-boolean v = if is Kind.Boolean v then ok v else stop 6
 
 unfoldable pub resolve-int : Value → Outcome
 resolve-int v =
     if is Kind.Int v then ok v else
-    if is Kind.Long v then (if inInt (number v) then ok (Value.Scalar Kind.Int (intOfLong (number v))) else no 7) else
-    no 6
+    if is Kind.Long v then (if inInt (number v) then ok (Value.Scalar Kind.Int (intOfLong (number v))) else stop 7) else
+    stop 6
 
 unfoldable pub resolve-long : Value → Outcome
 resolve-long v =
     if is Kind.Int v then ok (Value.Scalar Kind.Long (longOfInt (number v))) else
     if is Kind.Long v then ok v else
-    no 6
+    stop 6
 
 -- a float from text
 unfoldable pub special : ℕ → (ℕ → ℕ) → Option ℕ → Outcome
-special k f none = no 6
+special k f none = stop 6
 special k f (some b) = ok (Value.Scalar k (f b))
 
 unfoldable pub resolve-float : Value → Outcome
@@ -49,7 +49,7 @@ resolve-float v =
     if is Kind.Float v then ok v else
     if is Kind.Double v then ok (Value.Scalar Kind.Float (floatOfDouble (number v))) else
     if is Kind.String v then special Kind.Float (λ b. b) (parse-special-float (octets v)) else
-    no 6
+    stop 6
 
 unfoldable pub resolve-double : Value → Outcome
 resolve-double v =
@@ -58,24 +58,24 @@ resolve-double v =
     if is Kind.Float v then ok (Value.Scalar Kind.Double (doubleOfFloat (number v))) else
     if is Kind.Double v then ok v else
     if is Kind.String v then special Kind.Double doubleOfFloat (parse-special-float (octets v)) else
-    no 6
+    stop 6
 
 -- resolve_date and resolve_time_millis
 unfoldable pub resolveIntTime : ℕ → Value → Outcome
-resolveIntTime k v = if is k v || is Kind.Int v then ok (Value.Scalar k (number v)) else no 6
+resolveIntTime k v = if is k v || is Kind.Int v then ok (Value.Scalar k (number v)) else stop 6
 
 -- resolve_time_micros to resolve_local_timestamp_nanos
 unfoldable pub resolveLongTime : ℕ → Value → Outcome
 resolveLongTime k v =
     if is k v || is Kind.Long v then ok (Value.Scalar k (number v)) else
     if is Kind.Int v then ok (Value.Scalar k (longOfInt (number v))) else
-    no 6
+    stop 6
 
 -- ---- bytes and texts
 
 -- the number of an Int, where it is a byte
 unfoldable pub inByte : ℕ → Result ℕ
-inByte n = if leb n 255 then ok n else no 8
+inByte n = if leb n 255 then ok n else stop 8
 
 -- a value that is resolved as an Int, as a byte
 unfoldable pub intByte : Value → Result ℕ
@@ -101,30 +101,30 @@ resolve-bytes v =
     if is Kind.Array v then (do
       s ← byteItems (items v)
       ok (Value.Octets Kind.Bytes s)) else
-    no 6
+    stop 6
 
 unfoldable pub resolve-string : Value → Outcome
 resolve-string v =
     if is Kind.String v then ok v else
-    if is Kind.Bytes v || is Kind.Fixed v then (if isUtf8 (octets v) then ok (Value.Octets Kind.String (octets v)) else no 9) else
-    no 6
+    if is Kind.Bytes v || is Kind.Fixed v then (if isUtf8 (octets v) then ok (Value.Octets Kind.String (octets v)) else stop 9) else
+    stop 6
 
 -- a String's length is not looked at
 unfoldable pub resolve-fixed : ℕ → Value → Outcome
 resolve-fixed size v =
     if is Kind.String v then ok (Value.Octets Kind.Fixed (octets v)) else
-    if is Kind.Fixed v || is Kind.Bytes v then (if eqb (length (octets v)) size then ok (Value.Octets Kind.Fixed (octets v)) else no 10) else
-    no 6
+    if is Kind.Fixed v || is Kind.Bytes v then (if eqb (length (octets v)) size then ok (Value.Octets Kind.Fixed (octets v)) else stop 10) else
+    stop 6
 
 -- code points as bytes, if none is above 255
 unfoldable pub pointBytes : List ℕ → Result (List ℕ)
 pointBytes [] = ok []
 pointBytes (p ∷ ps) = if leb p 255 then (do
   s ← pointBytes ps
-  ok (p ∷ s)) else no 6
+  ok (p ∷ s)) else stop 6
 
 unfoldable pub textPoints : Option (List ℕ) → Result (List ℕ)
-textPoints none = no 6
+textPoints none = stop 6
 textPoints (some ps) = pointBytes ps
 
 unfoldable pub fixedTooShort : ℕ → Option ℕ → Bool
@@ -133,42 +133,42 @@ fixedTooShort precision (some size) = tooShortFor precision size
 
 unfoldable pub resolve-decimal : ℕ → ℕ → Option ℕ → Value → Outcome
 resolve-decimal precision scale size v =
-    if ltb precision scale then no 12 else
-    if fixedTooShort precision size then no 13 else
+    if ltb precision scale then stop 12 else
+    if fixedTooShort precision size then stop 13 else
     if is Kind.Decimal v || is Kind.Fixed v || is Kind.Bytes v then
-    (if tooShortFor precision (length (octets v)) then no 14 else ok (Value.Octets Kind.Decimal (octets v))) else
+    (if tooShortFor precision (length (octets v)) then stop 14 else ok (Value.Octets Kind.Decimal (octets v))) else
     if is Kind.String v then (do
       s ← textPoints (codePoints (octets v))
       ok (Value.Octets Kind.Decimal s)) else
-    no 6
+    stop 6
 
 unfoldable pub parsedUuid : Option (List ℕ) → Outcome
-parsedUuid none = no 11
+parsedUuid none = stop 11
 parsedUuid (some s) = ok (Value.Octets Kind.Uuid s)
 
 -- 16 bytes are a UUID; any other length is refusal n
 unfoldable pub uuidOfBytes : ℕ → List ℕ → Outcome
-uuidOfBytes n s = if eqb (length s) 16 then ok (Value.Octets Kind.Uuid s) else no n
+uuidOfBytes n s = if eqb (length s) 16 then ok (Value.Octets Kind.Uuid s) else stop n
 
 unfoldable pub resolve-uuid : UuidForm → Value → Outcome
 resolve-uuid UuidForm.bytes v =
     if is Kind.Uuid v then ok v else
     if is Kind.Bytes v then uuidOfBytes 11 (octets v) else
-    no 6
+    stop 6
 resolve-uuid UuidForm.string v =
     if is Kind.Uuid v then ok v else
     if is Kind.String v then parsedUuid (uuidOfText (octets v)) else
-    no 6
+    stop 6
 resolve-uuid (UuidForm.fixed n) v =
     if is Kind.Uuid v then ok v else
     if is Kind.Fixed v || is Kind.String v then uuidOfBytes 10 (octets v) else
-    no 6
+    stop 6
 
 unfoldable pub resolve-duration : Value → Outcome
 resolve-duration v =
     if is Kind.Duration v then ok v else
-    if is Kind.Fixed v then (if eqb (length (octets v)) 12 then ok (Value.Octets Kind.Duration (octets v)) else no 10) else
-    no 6
+    if is Kind.Fixed v then (if eqb (length (octets v)) 12 then ok (Value.Octets Kind.Duration (octets v)) else stop 10) else
+    stop 6
 
 unfoldable pub later : Option ℕ → Option ℕ
 later none = none
@@ -180,20 +180,20 @@ position s [] = none
 position s (t ∷ ts) = if same t s then some 0 else later (position s ts)
 
 unfoldable pub enumAt : Text → Option ℕ → Outcome
-enumAt s none = no 15
+enumAt s none = stop 15
 enumAt s (some i) = ok (Value.Enum i s)
 
 unfoldable pub orDefault : List Text → Option Text → Outcome → Outcome
 orDefault symbols d (ok v) = ok v
-orDefault symbols none (no n) = no n
-orDefault symbols (some d) (no n) = enumAt d (position d symbols)
+orDefault symbols none (stop n) = stop n
+orDefault symbols (some d) (stop n) = enumAt d (position d symbols)
 
 -- validate_symbol: the symbol at its first place, or else the default at its own
 abbrev pub validate-symbol : List Text → Option Text → Text → Outcome
 validate-symbol symbols default s = orDefault symbols default (enumAt s (position s symbols))
 
 unfoldable pub resolve-enum : List Text → Option Text → Value → Outcome
-resolve-enum symbols default v = if is Kind.Enum v || is Kind.String v then validate-symbol symbols default (octets v) else no 6
+resolve-enum symbols default v = if is Kind.Enum v || is Kind.String v then validate-symbol symbols default (octets v) else stop 6
 
 -- a schema without content
 unfoldable pub resolvePlain : ℕ → Value → Outcome

@@ -8,7 +8,7 @@ ghost use mathlib.Core.Option.{some, none};
 ghost use Prim.Native.Nat.{ℕ, _<_, _≤_};
 ghost use lib.Dec.{eqb};
 ghost use lib.ListN.{length, drop, getD};
-ghost use Rattle.base.specs.Base.{if_then_else_, ok, no, after};
+ghost use Rattle.base.specs.Base.{if_then_else_, ok, stop, after};
 ghost use Rattle.number.specs.Number.{bytesOf};
 ghost use Rattle.utf8.specs.Utf8.{isUtf8, codePoints, allLatin1};
 ghost use Rattle.text.specs.Measured.{Reads};
@@ -55,7 +55,7 @@ pub fn put_plain(out: &mut [u8], kind: u8, t: &[u8]) -> usize
 
 fn string_of(t: &[u8], out: &mut [u8]) -> Answer
     requires { ⌜ length (now t) < 65536 ⌝ }
-    ensures { λ r. ⌜ Wrote (encoded (if isUtf8 (now (t .entry)) then ok (Value.Octets Kind.String (now (t .entry))) else no 9)) (now (out .exit)) r ⌝ }
+    ensures { λ r. ⌜ Wrote (encoded (if isUtf8 (now (t .entry)) then ok (Value.Octets Kind.String (now (t .entry))) else stop 9)) (now (out .exit)) r ⌝ }
 {
     if utf8::is_utf8(t) {
         return Answer::Accepted(put_counted(out, 7, t));
@@ -81,7 +81,7 @@ pub fn resolve_string(v: &[u8], out: &mut [u8], depth: usize) -> Answer
 
 fn fixed_of(size: usize, t: &[u8], out: &mut [u8]) -> Answer
     requires { ⌜ length (now t) < 65536 ⌝ }
-    ensures { λ r. ⌜ Wrote (encoded (if eqb (length (now (t .entry))) size then ok (Value.Octets Kind.Fixed (now (t .entry))) else no 10)) (now (out .exit)) r ⌝ }
+    ensures { λ r. ⌜ Wrote (encoded (if eqb (length (now (t .entry))) size then ok (Value.Octets Kind.Fixed (now (t .entry))) else stop 10)) (now (out .exit)) r ⌝ }
 {
     if t.len() == size {
         return Answer::Accepted(put_counted(out, 13, t));
@@ -173,7 +173,7 @@ pub fn resolve_uuid_fixed(size: usize, v: &[u8], out: &mut [u8], depth: usize) -
 }
 
 fn duration_of(t: &[u8], out: &mut [u8]) -> Answer
-    ensures { λ r. ⌜ Wrote (encoded (if eqb (length (now (t .entry))) 12 then ok (Value.Octets Kind.Duration (now (t .entry))) else no 10)) (now (out .exit)) r ⌝ }
+    ensures { λ r. ⌜ Wrote (encoded (if eqb (length (now (t .entry))) 12 then ok (Value.Octets Kind.Duration (now (t .entry))) else stop 10)) (now (out .exit)) r ⌝ }
 {
     if t.len() == 12 {
         return Answer::Accepted(put_plain(out, 25, t));
@@ -205,7 +205,7 @@ fn fixed_too_short(precision: u32, sized: bool, size: usize) -> bool
 
 fn decimal_of(precision: u32, t: &[u8], out: &mut [u8]) -> Answer
     requires { ⌜ length (now t) < 65536 ⌝ }
-    ensures { λ r. ⌜ Wrote (encoded (if tooShortFor precision (length (now (t .entry))) then no 14 else ok (Value.Octets Kind.Decimal (now (t .entry))))) (now (out .exit)) r ⌝ }
+    ensures { λ r. ⌜ Wrote (encoded (if tooShortFor precision (length (now (t .entry))) then stop 14 else ok (Value.Octets Kind.Decimal (now (t .entry))))) (now (out .exit)) r ⌝ }
 {
     if decimal::too_short_for(precision, t.len()) {
         return Answer::Refused(14);

@@ -7,7 +7,7 @@ use lib.ListN.{length, take, drop, length-drop}
 use lib.Seq.{length-take-le}
 use borrow.Rule.Slice.PartMut.{same-len-mid}
 use Rattle.number.proofs.Laws.{getD-allBytes}
-use Rattle.types.proofs.NodeLaws.{wrote-no}
+use Rattle.types.proofs.NodeLaws.{wrote-stop}
 use Rattle.value.proofs.SkipLaws.{entry-counted}
 use Rattle.schema.proofs.Checking.{name-reads}
 use Rattle.frame.specs.ValueFrame.{readValue, readEntry}
@@ -888,7 +888,7 @@ one-field-same-length : (t : ℕ) → one-field-lts.Need-same-length (content-re
 one-field-same-length t c = c .before .before .before .before .before .before .before .before .before .put .kept .0
 
 one-field-returns : (t : ℕ) → one-field-lts.Need-returns (content-reads.Asked, content-reads.Learnt, put-reads.Asked, put-reads.Learnt, room-reads.Asked, room-reads.Learnt, field-at-reads.Asked, field-at-reads.Learnt, find-in-reads.Asked, find-in-reads.Learnt, resolve-node-below t, resolve-node.Post, joined-reads.Asked, joined-reads.Learnt, default-below t, default.Post) (one-field-at t) one-field.Post
-one-field-returns t c = wrote-no _ _ 17 (field-none _ _ (c .before .before .before .before .before .before .before .before .before .before .before .before .before .before .before .before .before .pre .1 .0) _ (c .before .before .before .before .before .field-at .ensures) _ _ _ (c .before .before .before .before .before .before .before .before .before .before .before .before .before .before .before .before .before .pre .1 .1) (getD-allBytes (c .before .before .before .before .before .before .before .before .before .before .before .before .before .before .before .before .before .args .s .now) (λ i. omega (arith, c .before .before .before .before .before .before .before .before .before .before .before .before .before .before .before .before .shared-slice-known .given i))) (c .before .before .before .before .before .before .before .before .before .before .before .before .content .ensures .0) (rw (c .before .before .enum-told .given .1) at (c .before .before .before .before .find-in .ensures)) (not-true _ (c .if1 .taken)))
+one-field-returns t c = wrote-stop _ _ 17 (field-none _ _ (c .before .before .before .before .before .before .before .before .before .before .before .before .before .before .before .before .before .pre .1 .0) _ (c .before .before .before .before .before .field-at .ensures) _ _ _ (c .before .before .before .before .before .before .before .before .before .before .before .before .before .before .before .before .before .pre .1 .1) (getD-allBytes (c .before .before .before .before .before .before .before .before .before .before .before .before .before .before .before .before .before .args .s .now) (λ i. omega (arith, c .before .before .before .before .before .before .before .before .before .before .before .before .before .before .before .before .shared-slice-known .given i))) (c .before .before .before .before .before .before .before .before .before .before .before .before .content .ensures .0) (rw (c .before .before .enum-told .given .1) at (c .before .before .before .before .find-in .ensures)) (not-true _ (c .if1 .taken)))
 
 one-field-sub-default : (t : ℕ) → one-field-lts.Need-sub-default (content-reads.Asked, content-reads.Learnt, put-reads.Asked, put-reads.Learnt, room-reads.Asked, room-reads.Learnt, field-at-reads.Asked, field-at-reads.Learnt, find-in-reads.Asked, find-in-reads.Learnt, resolve-node-below t, resolve-node.Post, joined-reads.Asked, joined-reads.Learnt, default-below t, default.Post) (one-field-at t) one-field.Post
 one-field-sub-default t c = c .before .before .before .before .before .field-at .ensures .inside
@@ -963,7 +963,7 @@ resolve-array-shared-slice-read-if1 : (t : ℕ) → resolve-array-lts.Need-share
 resolve-array-shared-slice-read-if1 t c = value-there _ _ (c .before .before .before .before .pre .1 .1) .1
 
 resolve-array-returns : (t : ℕ) → resolve-array-lts.Need-returns (read2-reads.Asked, read2-reads.Learnt, put-reads.Asked, put-reads.Learnt, room-reads.Asked, room-reads.Learnt, resolve-node-below t, resolve-node.Post, joined-reads.Asked, joined-reads.Learnt, value-len-reads.Asked, value-len-reads.Learnt) (resolve-array-at t) resolve-array.Post resolve-array-Inv-loop resolve-array-μ-loop
-resolve-array-returns t c = wrote-no _ _ 6 (array-no _ _ _ _ (c .before .before .before .before .before .pre .1 .0) (c .before .before .before .before .before .pre .1 .1) (c .before .before .before .before .before .pre .1 .2) (getD-allBytes (c .before .before .before .before .before .args .v .now) (λ i. omega (arith, c .before .before .before .shared-slice-known2 .given i))) (c .if1 .taken))
+resolve-array-returns t c = wrote-stop _ _ 6 (array-no _ _ _ _ (c .before .before .before .before .before .pre .1 .0) (c .before .before .before .before .before .pre .1 .1) (c .before .before .before .before .before .pre .1 .2) (getD-allBytes (c .before .before .before .before .before .args .v .now) (λ i. omega (arith, c .before .before .before .shared-slice-known2 .given i))) (c .if1 .taken))
 
 resolve-array-read2-requires : (t : ℕ) → resolve-array-lts.Need-read2-requires (read2-reads.Asked, read2-reads.Learnt, put-reads.Asked, put-reads.Learnt, room-reads.Asked, room-reads.Learnt, resolve-node-below t, resolve-node.Post, joined-reads.Asked, joined-reads.Learnt, value-len-reads.Asked, value-len-reads.Learnt) (resolve-array-at t) resolve-array.Post resolve-array-Inv-loop resolve-array-μ-loop
 resolve-array-read2-requires t c κs = value-array _ _ (c .before .before .before .before .before .pre .1 .1) (c .if1 .left) .0
@@ -1074,7 +1074,7 @@ resolve-map-shared-slice-read-if1 : (t : ℕ) → resolve-map-lts.Need-shared-sl
 resolve-map-shared-slice-read-if1 t c = value-there _ _ (c .before .before .before .before .pre .1 .1) .1
 
 resolve-map-returns : (t : ℕ) → resolve-map-lts.Need-returns (read2-reads.Asked, read2-reads.Learnt, put-reads.Asked, put-reads.Learnt, room-reads.Asked, room-reads.Learnt, entry-below t, entry.Post, joined-reads.Asked, joined-reads.Learnt, entry-len-reads.Asked, entry-len-reads.Learnt) (resolve-map-at t) resolve-map.Post resolve-map-Inv-loop resolve-map-μ-loop
-resolve-map-returns t c = wrote-no _ _ 6 (map-no _ _ _ _ (c .before .before .before .before .before .pre .1 .0) (c .before .before .before .before .before .pre .1 .1) (c .before .before .before .before .before .pre .1 .2) (getD-allBytes (c .before .before .before .before .before .args .v .now) (λ i. omega (arith, c .before .before .before .shared-slice-known2 .given i))) (c .if1 .taken))
+resolve-map-returns t c = wrote-stop _ _ 6 (map-no _ _ _ _ (c .before .before .before .before .before .pre .1 .0) (c .before .before .before .before .before .pre .1 .1) (c .before .before .before .before .before .pre .1 .2) (getD-allBytes (c .before .before .before .before .before .args .v .now) (λ i. omega (arith, c .before .before .before .shared-slice-known2 .given i))) (c .if1 .taken))
 
 resolve-map-read2-requires : (t : ℕ) → resolve-map-lts.Need-read2-requires (read2-reads.Asked, read2-reads.Learnt, put-reads.Asked, put-reads.Learnt, room-reads.Asked, room-reads.Learnt, entry-below t, entry.Post, joined-reads.Asked, joined-reads.Learnt, entry-len-reads.Asked, entry-len-reads.Learnt) (resolve-map-at t) resolve-map.Post resolve-map-Inv-loop resolve-map-μ-loop
 resolve-map-read2-requires t c κs = value-map _ _ (c .before .before .before .before .before .pre .1 .1) (c .if1 .left) .0
@@ -1298,7 +1298,7 @@ resolve-record-returns-2 : (t : ℕ) → resolve-record-lts.Need-returns-2 (keye
 resolve-record-returns-2 t c = c .before .before .keyed2 .ensures
 
 resolve-record-returns-3 : (t : ℕ) → resolve-record-lts.Need-returns-3 (keyed-below t, keyed.Post) (resolve-record-at t) resolve-record.Post
-resolve-record-returns-3 t c = wrote-no _ _ 6 (record-no _ _ (c .before .before .before .before .before .before .before .pre .1 .0) (c .before .before .before .before .before .before .before .pre .1 .2) _ _ (c .before .before .before .before .before .before .before .pre .1 .1) (getD-allBytes (c .before .before .before .before .before .before .before .args .v .now) (λ i. omega (arith, c .before .before .before .before .before .shared-slice-known2 .given i))) (c .before .before .if1 .left) (c .if2 .left))
+resolve-record-returns-3 t c = wrote-stop _ _ 6 (record-no _ _ (c .before .before .before .before .before .before .before .pre .1 .0) (c .before .before .before .before .before .before .before .pre .1 .2) _ _ (c .before .before .before .before .before .before .before .pre .1 .1) (getD-allBytes (c .before .before .before .before .before .before .before .args .v .now) (λ i. omega (arith, c .before .before .before .before .before .shared-slice-known2 .given i))) (c .before .before .if1 .left) (c .if2 .left))
 
 resolve-union-named-of-requires : (t : ℕ) → resolve-union-lts.Need-named-of-requires (named-of-below t, named-of.Post, unnamed-kind-reads.Asked, unnamed-kind-reads.Learnt, table-position-reads.Asked, table-position-reads.Learnt, sooner-reads.Asked, sooner-reads.Learnt, tabled-below t, tabled.Post, put-index-reads.Asked, put-index-reads.Learnt, any-of-below t, any-of.Post) (resolve-union-at t) resolve-union.Post
 resolve-union-named-of-requires t c κs = (omega (arith, c .before .before .before .before .pre .0), c .before .before .before .before .pre .1)
