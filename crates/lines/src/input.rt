@@ -1,6 +1,6 @@
 // Standard input cut into lines: it is read in blocks, and one line is held at a time.
-// No contract of the language says what is read. So each step is proved to do what it says with the block that was read; `next`, which
-// takes the steps in turn, is proved safe.
+// No contract of the language says what is read. What each step cuts from a block and holds of a line is proved; `next`, which takes the
+// steps in turn, is proved safe.
 ghost use mathlib.Core.Path.{_≡_};
 ghost use mathlib.Core.Bool.{_||_};
 ghost use Prim.Native.Nat.{_≤_, _<_};
