@@ -1,18 +1,18 @@
--- The first newline ends the first line of a text. Assumes nothing.
+-- The first newline ends the first line of a text, also where the line comes in pieces. Assumes nothing.
 use Prim.Native.Nat.{ℕ, suc, _+_, _≤_, _<_, suc-le-suc}
 use mathlib.Core.Path.{_≡_, refl, ap, _∙_}
-use mathlib.Core.List.{List, [], _∷_}
+use mathlib.Core.List.{List, [], _∷_, _++_}
 use mathlib.Core.Bool.{Bool, true, false}
 use native.Mathlib.Omega.{arith}
 use native.Mathlib.Numerals.{add-one}
 use native.Mathlib.Nat.{le-of-suc-le-suc, suc-inj}
 use borrow.Author.Tests.{eq-eqb, ne-eqb}
 use lib.Dec.{eqb}
-use lib.ListN.{length, getD, take, drop}
-use lib.Seq.{drop-cons, drop-length}
+use lib.ListN.{length, getD, take, drop, length-append}
+use lib.Seq.{drop-cons, drop-length, take-append-add, drop-append-add}
 use Rattle.base.specs.Base.{if_then_else_}
 use Rattle.text.specs.Text.{Text}
-use Rattle.lines.specs.Cut.{newline, onto, lines, lineEnd}
+use Rattle.lines.specs.Cut.{newline, onto, lines, lineEnd, firstLine, behindLine}
 
 -- ---- the search
 
@@ -55,7 +55,7 @@ first-step true c s ls n f h = refl
 first-step false c s ls n f h = ap (onto c) (f (le-of-suc-le-suc h))
 
 -- where there is a newline, the characters before it are the first line, and those behind it the other lines
-pub lines-first : (s : Text) → lineEnd s < length s → lines s ≡ take (lineEnd s) s ∷ lines (drop (suc (lineEnd s)) s)
+pub lines-first : (s : Text) → lineEnd s < length s → lines s ≡ firstLine s ∷ lines (behindLine s)
 unfolding lineEnd lines
 lines-first [] h = absurd (omega arith)
 lines-first (c ∷ s) h = first-step (eqb c newline) c s (lines s) (lineEnd s) (λ g. lines-first s g) h
@@ -75,8 +75,45 @@ last-step : (b : Bool) (c : ℕ) (s : Text) (n : ℕ) → (n ≡ length s → li
 last-step true c s n f h = absurd (omega arith)
 last-step false c s n f h = ap (onto c) (f (suc-inj h)) ∙ onto-only c s
 
--- where there is none, all characters are one line
-pub lines-only : (s : Text) → lineEnd s ≡ length s → lines s ≡ only s
+lines-only : (s : Text) → lineEnd s ≡ length s → lines s ≡ only s
 unfolding lineEnd lines
 lines-only [] h = refl
 lines-only (c ∷ s) h = last-step (eqb c newline) c s (lineEnd s) (λ g. lines-only s g) h
+
+-- where there is none, all characters are one line
+pub lines-last : (s : Text) → lineEnd s ≡ length s → 0 < length s → lines s ≡ s ∷ []
+lines-last [] h g = absurd (omega arith)
+lines-last (c ∷ s) h g = lines-only (c ∷ s) h
+
+-- and where there are no characters, there is no line
+pub lines-none : lines [] ≡ []
+unfolding lines
+lines-none = refl
+
+-- ---- a line in pieces
+
+module _ (s : Text) where
+  piece-step : (b : Bool) (n k m : ℕ) → (n ≡ k → m ≡ k + lineEnd s) → (if b then 0 else suc n) ≡ suc k → (if b then 0 else suc m) ≡ suc k + lineEnd s
+  piece-step true n k m f h = absurd (omega arith)
+  piece-step false n k m f h = omega (arith, f (suc-inj h))
+
+  -- a piece with no newline belongs to the line that goes on behind it
+  pub lineEnd-piece : (p : Text) → lineEnd p ≡ length p → lineEnd (p ++ s) ≡ length p + lineEnd s
+  unfolding lineEnd
+  lineEnd-piece [] h = omega arith
+  lineEnd-piece (c ∷ p) h = piece-step (eqb c newline) (lineEnd p) (length p) (lineEnd (p ++ s)) (λ g. lineEnd-piece p g) h
+
+  module _ (p : Text) (h : lineEnd p ≡ length p) where
+    pub firstLine-piece : firstLine (p ++ s) ≡ p ++ firstLine s
+    firstLine-piece = ap (λ (k : ℕ). take k (p ++ s)) (lineEnd-piece p h) ∙ take-append-add p s (lineEnd s)
+
+    pub behindLine-piece : behindLine (p ++ s) ≡ behindLine s
+    behindLine-piece =
+        let e : suc (lineEnd (p ++ s)) ≡ length p + suc (lineEnd s) = omega (arith, lineEnd-piece p h) in
+        ap (λ (k : ℕ). drop k (p ++ s)) e ∙ drop-append-add p s (suc (lineEnd s))
+
+    -- so that the first line is the piece with what stands before the newline behind it
+    pub lines-piece : lineEnd s < length s → lines (p ++ s) ≡ (p ++ firstLine s) ∷ lines (behindLine s)
+    lines-piece g =
+        let l : lineEnd (p ++ s) < length (p ++ s) = omega (arith, lineEnd-piece p h, length-append p s) in
+        lines-first (p ++ s) l ∙ ap (λ (t : Text). t ∷ lines (behindLine (p ++ s))) firstLine-piece ∙ ap (λ (t : Text). (p ++ firstLine s) ∷ lines t) behindLine-piece

@@ -1,2 +1,3 @@
 pub mod CutLaws
+pub mod HeldLaws
 pub mod LineLaws

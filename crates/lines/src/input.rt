@@ -1,10 +1,13 @@
 // Standard input cut into lines: it is read in blocks, and one line is held at a time.
-// No contract of the language says what is read. Where a line ends in what was read is proved; the rest is proved safe.
+// No contract of the language says what is read. What each step cuts from a block and holds of a line is proved; `next`, which takes the
+// steps in turn, is proved safe.
 ghost use mathlib.Core.Path.{_≡_};
-ghost use Prim.Native.Nat.{_≤_};
+ghost use mathlib.Core.Bool.{_||_};
+ghost use Prim.Native.Nat.{_≤_, _<_};
+ghost use lib.Dec.{ltb};
 ghost use lib.ListN.{length};
-ghost use Rattle.lines.specs.Cut.{lineEnd};
-ghost use Rattle.lines.specs.Held.{Held};
+ghost use Rattle.lines.specs.Cut.{lineEnd, hasNewline, firstLine, behindLine};
+ghost use Rattle.lines.specs.Held.{Held, uncut, heldLine, more};
 
 // How far the input is cut: the block's bytes from `at` to `end` are still to be cut; `filled` characters of the last line are held, none
 // where it is `long`, longer than there is room for; and whether it is whole.
@@ -45,7 +48,8 @@ fn line_end(s: &[u8]) -> usize
 // A new block where the last one is used up.
 fn refilled(r: Reader, block: &mut [u8]) -> Reader
     requires { ⌜ (r .at ≤ r .end) × (r .end ≤ length (now block)) ⌝ }
-    ensures { λ t. ⌜ (t .at ≤ t .end) × (t .end ≤ length (now (block .exit))) × (t .filled ≡ r .filled) ⌝ }
+    ensures { λ t. ⌜ (t .at ≤ t .end) × (t .end ≤ length (now (block .exit))) × (t .filled ≡ r .filled) × (t .long ≡ r .long) ⌝ }
+    ensures { λ t. ⌜ (r .at < r .end → uncut t (now (block .exit)) ≡ uncut r (now (block .entry))) ⌝ }
 {
     if r.at < r.end {
         return r;
@@ -65,6 +69,7 @@ fn refilled(r: Reader, block: &mut [u8]) -> Reader
 fn kept(r: Reader, piece: &[u8], line: &mut [u8]) -> Reader
     requires { ⌜ r .filled ≤ length (now line) ⌝ }
     ensures { λ t. ⌜ (t .at ≡ r .at) × (t .end ≡ r .end) × (t .filled ≤ length (now (line .exit))) ⌝ }
+    ensures { λ t. ⌜ heldLine t (now (line .exit)) ≡ more (length (now (line .entry))) (heldLine r (now (line .entry))) (now (piece .entry)) ⌝ }
 {
     let filled = r.filled;
     if r.long {
@@ -93,6 +98,8 @@ fn kept(r: Reader, piece: &[u8], line: &mut [u8]) -> Reader
 fn cut(r: Reader, block: &[u8], line: &mut [u8]) -> Reader
     requires { ⌜ Held r (now block) (now line) ⌝ }
     ensures { λ t. ⌜ Held t (now (block .entry)) (now (line .exit)) ⌝ }
+    ensures { λ t. ⌜ heldLine t (now (line .exit)) ≡ more (length (now (line .entry))) (heldLine r (now (line .entry))) (firstLine (uncut r (now (block .entry)))) ⌝ }
+    ensures { λ t. ⌜ (t .whole ≡ hasNewline (uncut r (now (block .entry)))) × (uncut t (now (block .entry)) ≡ behindLine (uncut r (now (block .entry)))) ⌝ }
 {
     let at = r.at;
     let end = r.end;
@@ -119,7 +126,7 @@ fn cut(r: Reader, block: &[u8], line: &mut [u8]) -> Reader
 
 // The input has ended: a last line may lack its newline.
 fn last(r: Reader) -> Reader
-    ensures { λ t. ⌜ (t .at ≡ r .at) × (t .end ≡ r .end) × (t .filled ≡ r .filled) ⌝ }
+    ensures { λ t. ⌜ (t .at ≡ r .at) × (t .end ≡ r .end) × (t .filled ≡ r .filled) × (t .long ≡ r .long) × (t .whole ≡ (r .long || ltb 0 (r .filled))) ⌝ }
 {
     let mut t = r;
     t.whole = r.long || 0 < r.filled;
