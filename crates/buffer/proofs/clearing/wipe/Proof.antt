@@ -1,4 +1,7 @@
+use mathlib.Core.Path.{sym, _∙_}
+use borrow.Author.Tests.{eq-eqb}
 use borrow.Author.Needs.{needs}
+use Rattle.buffer.proofs.ClearLaws.{zeros-are}
 use Rattle.buffer.proofs.clearing.wipe.Statement.{statement}
 use Rattle.buffer.proofs.clearing.wipe.Tie as tie
 use Rattle.buffer.proofs.clearing.wipe.Reads as reads
@@ -13,7 +16,7 @@ same-length : tie.Need-same-length
 same-length c = search needs
 
 returns : tie.Need-returns
-returns c = c .before .bits .ensures (c .if1 .taken)
+returns c = zeros-are _ (sym (c .before .bits .ensures) ∙ eq-eqb _ 0 (c .if1 .taken))
 
 fill-requires : tie.Need-fill-requires
 fill-requires c κs = search needs
