@@ -25,6 +25,7 @@ use Rattle.avro.specs.Resolve.{resolve, resolveFields, startDefault, trials}
 use Rattle.demand3.specs.Demand3.{nullablePair, nullablePairs, isNull, onlyNullLeadsTo, fits, fieldsFit, variantFits, allItems, allEntries, symbolAt, meetings, fieldMeetings, fieldMeeting, firstMeeting, notStringIntoBytes, noStringMeets}
 use Rattle.avro.specs.Resolve
 use Rattle.types.specs.Types
+use Rattle.types.proofs.ScalarLaws.{int-time-kept, long-time-kept}
 use Rattle.avro.specs.Union
 use Rattle.demand3.proofs.Induction.{pair, sound-field, EveryField, Steps, induction}
 use Rattle.demand3.proofs.Alike.{same→eq, same-refl, null-is}
@@ -130,14 +131,6 @@ string-okay v =
     (λ _. okay-if _ (isUtf8 (octets v)) _ _ (λ _. plain-stable Kind.String (Value.Octets Kind.String (octets v)) tt tt refl) (λ _. tt))
     (λ _. tt)
 
-int-time-again : (k n : ℕ) → resolveIntTime k (Value.Scalar k n) ≡ ok (Value.Scalar k n)
-unfolding resolveIntTime kindOf number
-int-time-again k n = rw (is-true (eqb k k) (eqb-refl k))
-
-long-time-again : (k n : ℕ) → resolveLongTime k (Value.Scalar k n) ≡ ok (Value.Scalar k n)
-unfolding resolveLongTime kindOf number
-long-time-again k n = rw (is-true (eqb k k) (eqb-refl k))
-
 time-stable : (k n : ℕ) → resolvePlain k (Value.Scalar k n) ≡ ok (Value.Scalar k n) → Stable (Schema.Plain k) (Value.Scalar k n)
 unfolding fits resolve kindOf peel
 time-stable k n e = record { fitting = eqb-refl k; again = e }
@@ -177,7 +170,7 @@ plain-okay k v =
       is-false (eqb k Kind.Bytes) n6,
       is-false (eqb k Kind.String) n7,
       is-true (eqb k Kind.Date || eqb k Kind.TimeMillis) t,
-    ) (int-time-again k n))
+    ) (int-time-kept k n))
     (λ n8. long-time-okay k v λ n. rw (
       is-false (eqb k Kind.Null) n0,
       is-false (eqb k Kind.Boolean) n1,
@@ -188,7 +181,7 @@ plain-okay k v =
       is-false (eqb k Kind.Bytes) n6,
       is-false (eqb k Kind.String) n7,
       is-false (eqb k Kind.Date || eqb k Kind.TimeMillis) n8,
-    ) (long-time-again k n))
+    ) (long-time-kept k n))
 
 -- ---- the other leaves
 

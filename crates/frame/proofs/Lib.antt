@@ -1,3 +1,4 @@
+pub mod ContentTable
 pub mod RoundTrip
 pub mod ReadHeld
 pub mod ReadBack

@@ -9,6 +9,7 @@ use lib.ListN.{length}
 use lib.Seq.{length-take-le}
 use lib.Ieee.Fits.{and-r, and-i, eq→eqb}
 use Rattle.base.specs.Base.{if_then_else_}
+use Rattle.base.proofs.Okay.{Found}
 use Rattle.number.specs.Number.{allBytes}
 use Rattle.number.proofs.Laws.{allBytes-take, allBytes-drop, bigEndian-<}
 use Rattle.utf8.specs.Utf8.{isUtf8}
@@ -146,26 +147,22 @@ value-got (suc d) (k ∷ s) h = content-got (readValue d) d (λ t b. value-got d
 
 -- ---- whole frames
 
-abbrev Whole : {A : Type 0} → (A → Type 0) → Option A → Type 0
-Whole P none = Unit
-Whole P (some a) = P a
-
-whole-got : {A : Type 0} (P : A → Type 0) (p : List ℕ → Read A) (s : List ℕ) → Got P (p s) → Whole P (whole p s)
+whole-got : {A : Type 0} (P : A → Type 0) (p : List ℕ → Read A) (s : List ℕ) → Got P (p s) → Found P (whole p s)
 unfolding whole _>>=_
 whole-got P p s g = go (ltb 65535 (length s)) (p s) g
   where
-    tail : (x : _ × List ℕ) → P (x .0) → (b : Bool) → Whole P (if b then some (x .0) else none)
+    tail : (x : _ × List ℕ) → P (x .0) → (b : Bool) → Found P (if b then some (x .0) else none)
     tail x q true = q
     tail x q false = tt
 
-    go : (b : Bool) (m : Read _) → Got P m → Whole P (if b then none else (m >>= (λ x. if eqb (length (x .1)) 0 then some (x .0) else none)))
+    go : (b : Bool) (m : Read _) → Got P m → Found P (if b then none else (m >>= (λ x. if eqb (length (x .1)) 0 then some (x .0) else none)))
     go true m g = tt
     go false none g = tt
     go false (some x) g = tail x (g .0) (eqb (length (x .1)) 0)
 
 pub decode-held : (s : List ℕ) (v : Value) → T (allBytes s) → decodeValue s ≡ some v → T (held v 16)
 unfolding decodeValue
-decode-held s v h e = subst (λ (o : Option Value). Whole (λ v. T (held v 16)) o) e (whole-got _ (readValue 16) s (value-got 16 s h))
+decode-held s v h e = subst (λ (o : Option Value). Found (λ v. T (held v 16)) o) e (whole-got _ (readValue 16) s (value-got 16 s h))
 
 -- ---- schemas
 
@@ -298,7 +295,7 @@ schema-got (suc d) (k ∷ s) h = schema-content-got (readSchema d) d (λ t b. sc
 
 pub schema-held : (s : List ℕ) (t : Schema) → T (allBytes s) → decodeSchema s ≡ some t → HeldSchema t 16
 unfolding decodeSchema
-schema-held s t h e = subst (λ (o : Option Schema). Whole (λ t. HeldSchema t 16) o) e (whole-got _ (readSchema 16) s (schema-got 16 s h))
+schema-held s t h e = subst (λ (o : Option Schema). Found (λ t. HeldSchema t 16) o) e (whole-got _ (readSchema 16) s (schema-got 16 s h))
 
 pub value-part-held : (d : ℕ) (s : List ℕ) (v : Value) (r : List ℕ) → T (allBytes s) → readValue d s ≡ some (v, r) → T (held v d)
 value-part-held d s v r h e = subst (λ (m : Read Value). Got (λ v. T (held v d)) m) e (value-got d s h) .0

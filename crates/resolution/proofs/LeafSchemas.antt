@@ -5,7 +5,7 @@ use mathlib.Core.Path.{_≡_, refl, sym, ap, _∙_}
 use mathlib.Core.List.{List}
 use mathlib.Core.Option.{Option, none, some}
 use mathlib.Core.Bool.{Bool, true, false}
-use native.Mathlib.Omega.{arith}
+use native.Mathlib.Omega.{arith, by-contra}
 use native.Mathlib.Nat.{add-zero}
 use lib.Dec.{leb}
 use lib.ListN.{length, getD, take, drop, length-drop}
@@ -29,9 +29,6 @@ use Rattle.avro.specs.Resolve.{resolve}
 use Rattle.schema.proofs.Leaves.{fixed-got, fixed-none, decimal-none, decimal-got, decimal-later, uuid-empty, uuid-bytes, uuid-string, uuid-short, uuid-fixed, uuid-other, duration-got, duration-none, plain-low, plain-high, kind-past}
 use Rattle.resolution.specs.Contract.{Childless, resolvePeeled, peeledBytes}
 
-at-least : (n m : ℕ) → (m < n → ⊥) → n ≤ m
-at-least n m f = omega arith
-
 -- ---- trees and lengths
 
 module _ (d : ℕ) (s : List ℕ) (p : Reads (readSchema d s)) where
@@ -51,17 +48,17 @@ module _ (d : ℕ) (s : List ℕ) (p : Reads (readSchema d s)) where
 
   -- every kind byte is at most Duration's
   kind-small : getD s 0 0 ≤ 25
-  kind-small = at-least (getD s 0 0) 25 (λ h. never _ refl (kind-past _ _ _ h))
+  kind-small = by-contra (getD s 0 0) 25 (λ h. never _ refl (kind-past _ _ _ h))
 
   pub kind-below : (getD s 0 0 ≡ 25 → ⊥) → getD s 0 0 ≤ 24
-  kind-below f = at-least (getD s 0 0) 24 (λ h. f (omega (arith, kind-small)))
+  kind-below f = by-contra (getD s 0 0) 24 (λ h. f (omega (arith, kind-small)))
 
   -- ---- Fixed
 
   module _ (e : getD s 0 0 ≡ 13) where
     pub fixed-long : 3 ≤ length s
     fixed-long =
-        let h : 2 ≤ length (drop 1 s) = at-least _ _ (λ h. never 13 e (fixed-none _ _ h)) in
+        let h : 2 ≤ length (drop 1 s) = by-contra _ _ (λ h. never 13 e (fixed-none _ _ h)) in
         omega (arith, length-drop 1 s)
 
     fixed-tree : readSchema d s ≡ some (Schema.Fixed (numberAt s 1 2), drop 2 (drop 1 s))
@@ -71,19 +68,19 @@ module _ (d : ℕ) (s : List ℕ) (p : Reads (readSchema d s)) where
 
   module _ (e : getD s 0 0 ≡ 25) where
     duration-tree : readSchema d s ≡ some (Schema.Duration (numberAt s 1 2), drop 2 (drop 1 s))
-    duration-tree = schema-opened d s p 25 e ∙ duration-got _ _ (at-least _ _ (λ h. never 25 e (duration-none _ _ h)))
+    duration-tree = schema-opened d s p 25 e ∙ duration-got _ _ (by-contra _ _ (λ h. never 25 e (duration-none _ _ h)))
 
   -- ---- Decimal
 
   module _ (e : getD s 0 0 ≡ 14) where
     decimal-head : 8 ≤ length (drop 1 s)
-    decimal-head = at-least _ _ (λ h. never 14 e (decimal-none _ _ h))
+    decimal-head = by-contra _ _ (λ h. never 14 e (decimal-none _ _ h))
 
     option-never : readOption (readNumber 2) (drop 9 s) ≡ none → ⊥
     option-never g = never 14 e (decimal-later _ _ decimal-head (ap (readOption (readNumber 2)) (drop-drop 8 1 s) ∙ g))
 
     decimal-flag : 1 ≤ length (drop 9 s)
-    decimal-flag = at-least _ _ (λ h. option-never (option-empty _ _ (omega arith)))
+    decimal-flag = by-contra _ _ (λ h. option-never (option-empty _ _ (omega arith)))
 
     pub decimal-long : 9 < length s
     decimal-long = omega (arith, length-drop 9 s, decimal-flag)
@@ -95,14 +92,14 @@ module _ (d : ℕ) (s : List ℕ) (p : Reads (readSchema d s)) where
         ∙ ap (λ u. some (Schema.Decimal (numberAt s 1 4) (bigEndian (take 4 u)) n, drop (8 + m) (drop 1 s))) (drop-drop 4 1 s)
 
     unsized-flag : (getD s 9 0 ≡ 1 → ⊥) → getD s 9 0 ≡ 0
-    unsized-flag f = omega (arith, at-least (getD s 9 0) 1 (λ h. option-never (option-other _ _ decimal-flag (λ q. omega (arith, byte-at 9)) (λ q. omega (arith, byte-at 9)))), f)
+    unsized-flag f = omega (arith, by-contra (getD s 9 0) 1 (λ h. option-never (option-other _ _ decimal-flag (λ q. omega (arith, byte-at 9)) (λ q. omega (arith, byte-at 9)))), f)
 
     unsized-tree : (getD s 9 0 ≡ 1 → ⊥) → readSchema d s ≡ some (Schema.Decimal (numberAt s 1 4) (numberAt s 5 4) none, drop (8 + 1) (drop 1 s))
     unsized-tree f = decimal-tree none 1 (option-zero _ _ decimal-flag (byte-at 9 ∙ unsized-flag f))
 
     module _ (h : getD s 9 0 ≡ 1) where
       size-head : 2 ≤ length (drop 10 s)
-      size-head = at-least _ _ (λ g. option-never (option-one-none _ _ decimal-flag (byte-at 9 ∙ h) (ap (readNumber 2) (drop-drop 1 9 s) ∙ readNumber-none 2 (drop 10 s) g)))
+      size-head = by-contra _ _ (λ g. option-never (option-one-none _ _ decimal-flag (byte-at 9 ∙ h) (ap (readNumber 2) (drop-drop 1 9 s) ∙ readNumber-none 2 (drop 10 s) g)))
 
       pub sized-long : 12 ≤ length s
       sized-long = omega (arith, length-drop 10 s, size-head)
@@ -114,7 +111,7 @@ module _ (d : ℕ) (s : List ℕ) (p : Reads (readSchema d s)) where
 
   module _ (e : getD s 0 0 ≡ 15) where
     form-head : 1 ≤ length (drop 1 s)
-    form-head = at-least _ _ (λ h. never 15 e (uuid-empty _ _ (omega arith)))
+    form-head = by-contra _ _ (λ h. never 15 e (uuid-empty _ _ (omega arith)))
 
     pub uuid-long : 1 < length s
     uuid-long = omega (arith, length-drop 1 s, form-head)
@@ -127,10 +124,10 @@ module _ (d : ℕ) (s : List ℕ) (p : Reads (readSchema d s)) where
 
     module _ (f : getD s 1 0 ≡ 0 → ⊥) (g : getD s 1 0 ≡ 1 → ⊥) where
       form-two : getD (drop 1 s) 0 0 ≡ 2
-      form-two = omega (arith, at-least 2 (getD s 1 0) (λ h. omega arith), at-least (getD s 1 0) 2 (λ h. never 15 e (uuid-other _ _ form-head (λ q. omega (arith, byte-at 1)) (λ q. omega (arith, byte-at 1)) (λ q. omega (arith, byte-at 1)))), byte-at 1)
+      form-two = omega (arith, by-contra 2 (getD s 1 0) (λ h. omega arith), by-contra (getD s 1 0) 2 (λ h. never 15 e (uuid-other _ _ form-head (λ q. omega (arith, byte-at 1)) (λ q. omega (arith, byte-at 1)) (λ q. omega (arith, byte-at 1)))), byte-at 1)
 
       form-size : 3 ≤ length (drop 1 s)
-      form-size = at-least _ _ (λ h. never 15 e (uuid-short _ _ form-head form-two h))
+      form-size = by-contra _ _ (λ h. never 15 e (uuid-short _ _ form-head form-two h))
 
       pub uuid-fixed-long : 4 ≤ length s
       uuid-fixed-long = omega (arith, length-drop 1 s, form-size)
@@ -216,7 +213,7 @@ module _ (ds : ℕ) (s : List ℕ) (p : Reads (readSchema ds s)) (y : Read Value
 -- ---- kinds
 
 next : (n k : ℕ) → n ≤ k → (k ≡ n → ⊥) → n + 1 ≤ k
-next n k h f = at-least (n + 1) k (λ g. f (omega arith))
+next n k h f = by-contra (n + 1) k (λ g. f (omega arith))
 
 -- the kind of a schema without content and without children, other than Bytes and String
 pub plain-kind : (s : List ℕ) → Childless s → (getD s 0 0 ≡ 6 → ⊥) → (getD s 0 0 ≡ 7 → ⊥) → (getD s 0 0 ≡ 12 → ⊥) → (getD s 0 0 ≡ 13 → ⊥) → (getD s 0 0 ≡ 14 → ⊥) → (getD s 0 0 ≡ 15 → ⊥) → 5 < getD s 0 0 → 16 ≤ getD s 0 0

@@ -6,10 +6,10 @@ use mathlib.Core.Option.{none, some}
 use mathlib.Core.Bool.{Bool, true, false, _&&_, not, or-false, and-assoc}
 use native.Mathlib.Omega.{arith}
 use lib.Dec.{T, leb, ltb, eqb, nleb→lt, eqb→eq}
-use lib.ListN.{length, drop, getD, length-drop, List·getD-eq-default}
+use lib.ListN.{length, drop, getD, length-drop}
 use lib.Seq.{drop-drop}
 use borrow.Author.Tests.{lt-leb, le-ltb, lt-ltb, ne-eqb, leb-true, leb-false}
-use Rattle.base.proofs.AllBelow.{allBelow, allBelow-lookup}
+use Rattle.base.proofs.AllBelow.{allBelow}
 use Rattle.number.specs.Number.{numberAt}
 use Rattle.text.specs.Text.{Text}
 use Rattle.text.specs.Read.{Read, _>>=_, readBytes, readNumber, readCounted, readText}
@@ -22,6 +22,7 @@ use Rattle.frame.specs.ValueFrame.{Content, wide, flag, counted, text, plain, a
 use Rattle.frame.specs.Sound.{keysRise, defaultScalar, defaultKinds, defaultItems, defaultEntries, defaultAllowed}
 use Rattle.frame.specs.Checks.{Checks, Spans}
 use Rattle.frame.specs.declared.Checked.the-variants.{Of}
+use Rattle.frame.proofs.ContentTable.{each-content}
 use Rattle.frame.proofs.Reading.{read-what, read-rest, not-both, bind-inv, reads-some, reads-eq, reads-first, reads-number, option-one-some}
 use Rattle.frame.proofs.Measuring.{held, checks-some}
 use Rattle.frame.proofs.Counting.{First, Left, left-first, left-step}
@@ -73,12 +74,8 @@ unfolding allBelow kindTest table
 table-holds = tt
 
 kind-test : (k : ℕ) → T (kindTest k (content k))
-unfolding kindTest table
-kind-test k = go (leb 26 k) refl
-  where
-    go : (b : Bool) → leb 26 k ≡ b → T (kindTest k (content k))
-    go true e = subst (λ c. T (kindTest k c)) (sym (List·getD-eq-default table unknown (leb-true 26 k e))) tt
-    go false e = allBelow-lookup 26 (λ k. kindTest k (content k)) table-holds k (leb-false 26 k e)
+unfolding kindTest
+kind-test = each-content kindTest (λ k. tt) table-holds
 
 not-low : (k : ℕ) → T (not (leb k 2)) → leb k 2 ≡ false
 not-low k t = lt-leb k 2 (nleb→lt k 2 t)

@@ -101,7 +101,7 @@ module _ (node : List ℕ → Read Schema) (s : List ℕ) where
       unfolding readField _>>=_
       field-open = rw (e, g, drop-drop b a s)
 
-      pub field-none₃ : node (drop (a + b) s) ≡ none → readField node s ≡ none
+      field-none₃ : node (drop (a + b) s) ≡ none → readField node s ≡ none
       field-none₃ h = field-open ∙ bind-none _ _ h
 
       pub field-got : (m : ℕ) (f : Schema) → node (drop (a + b) s) ≡ some (f, drop m (drop (a + b) s)) → readField node s ≡ some ((name, d, f), drop (a + b + m) s)
