@@ -20,8 +20,9 @@ use Rattle.avro.specs.Union.{Trial, resolve-union}
 use Rattle.avro.specs.Resolve.{resolve, resolveFields, startDefault, trials, resolve-array, resolve-map, resolve-record, eachItem, eachEntry, fieldValue, lookup, orElse}
 use Rattle.avro.specs.Defaults.{defaultsShort}
 use Rattle.hulmbax.specs.Answer.{answer, checkedSchema, checkedValue, checkedResult, bufferAfter, workspaceAfter, workspaceSize}
+use Rattle.frame.proofs.SoundLaws.{sound-field}
 use Rattle.demand3.specs.Demand3.{Alike, AreAlike, nullablePair, nullablePairs, isNull, onlyNullLeadsTo, underUnion, change, mapItems, mapEntries, hasName, keepEntry, keepEntries, strip, stripField}
-use Rattle.demand3.proofs.Induction.{pair, sound-field, EveryField, Steps, induction}
+use Rattle.demand3.proofs.Induction.{pair, EveryField, Steps, induction}
 
 -- ---- texts
 

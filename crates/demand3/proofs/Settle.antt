@@ -22,12 +22,13 @@ use Rattle.frame.specs.Sound.{schemaSound, fieldsSound, hasField, kindsSound}
 use Rattle.types.specs.Types.{Outcome, resolvePlain, resolve-null, resolve-boolean, resolve-int, resolve-long, resolve-float, resolve-double, resolve-bytes, resolve-string, resolveIntTime, resolveLongTime, special, byteItems, resolve-fixed, resolve-decimal, resolve-uuid, resolve-duration, resolve-enum}
 use Rattle.avro.specs.Union.{Trial}
 use Rattle.avro.specs.Resolve.{resolve, resolveFields, startDefault, trials}
+use Rattle.frame.proofs.SoundLaws.{sound-field}
 use Rattle.demand3.specs.Demand3.{nullablePair, nullablePairs, isNull, onlyNullLeadsTo, fits, fieldsFit, variantFits, allItems, allEntries, symbolAt, meetings, fieldMeetings, fieldMeeting, firstMeeting, notStringIntoBytes, noStringMeets}
 use Rattle.avro.specs.Resolve
 use Rattle.types.specs.Types
 use Rattle.types.proofs.ScalarLaws.{int-time-kept, long-time-kept}
 use Rattle.avro.specs.Union
-use Rattle.demand3.proofs.Induction.{pair, sound-field, EveryField, Steps, induction}
+use Rattle.demand3.proofs.Induction.{pair, EveryField, Steps, induction}
 use Rattle.demand3.proofs.Alike.{same→eq, same-refl, null-is}
 
 -- ---- kinds

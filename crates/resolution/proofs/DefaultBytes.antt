@@ -31,12 +31,12 @@ use Rattle.buffer.specs.Built.{Built, Wrote}
 use Rattle.buffer.specs.declared.Answer.the-variants.{Accepted, Refused}
 use Rattle.avro.specs.Resolve.{first, resolve, startDefault}
 use Rattle.avro.specs.Defaults.{defaultsShort, variantDefaultsShort, shortDefault, shortStart}
+use Rattle.frame.proofs.SoundLaws.{sound-union, sound-variant}
 use Rattle.resolution.specs.Contract.{Ready, ReadyDefault, nodeBytes, peeledBytes, defaultBytes}
 use Rattle.avro.proofs.Held.{held-resolve}
 use Rattle.resolution.proofs.Pieces.{both-some}
 use Rattle.resolution.proofs.NodeBytes.{node-peel}
 use Rattle.resolution.proofs.UnionReading.{union-parts}
-use Rattle.resolution.proofs.SoundParts.{union-sound, variant-sound}
 
 -- ---- fields that are no union
 
@@ -93,7 +93,7 @@ first-variant ds s r e =
     go (p .variants) (p .behind) (p .kinds) (p .named) (p .reads-variants) (p .is)
   where
     go : (vs : List Schema) (u : List ℕ) (ks : List (ℕ × ℕ)) (ns : List ℕ) → readMany (readSchema (ds - 1)) (numberAt s 1 2) (drop 3 s) ≡ some (vs, u) → r .tree ≡ Schema.Union (variantsOf vs) ks ns → FirstVariant ds s (r .tree)
-    go [] u ks ns m q = absurd (no-variants (union-sound (variantsOf []) ks ns (subst (λ t. T (schemaSound t)) q (r .sound)) .0))
+    go [] u ks ns m q = absurd (no-variants (sound-union (variantsOf []) ks ns (subst (λ t. T (schemaSound t)) q (r .sound)) .any))
     go (x ∷ xs) u ks ns m q =
         let n : suc (length xs) ≡ numberAt s 1 2 = many-length (readSchema (ds - 1)) (numberAt s 1 2) (drop 3 s) (x ∷ xs) u m in
         let z = many-first (readSchema (ds - 1)) (numberAt s 1 2) (drop 3 s) (x ∷ xs) u (omega arith) m in
@@ -107,7 +107,7 @@ first-variant ds s r e =
           rest = z .behind;
           tree-is = q;
           reads = z .first ∙ ap (λ y. some (y, z .behind)) o;
-          sound = variant-sound x (variantsOf xs) (union-sound (variant x (variantsOf xs)) ks ns (subst (λ t. T (schemaSound t)) q (r .sound)) .1) .0;
+          sound = sound-variant x (variantsOf xs) (sound-union (variant x (variantsOf xs)) ks ns (subst (λ t. T (schemaSound t)) q (r .sound)) .variants) .schema;
           short = lead-short x (variantsOf xs) ks ns (subst (λ t. T (defaultsShort t)) q (r .short));
         }
 

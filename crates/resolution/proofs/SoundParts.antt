@@ -6,7 +6,7 @@ use mathlib.Core.List.{List, [], _∷_}
 use mathlib.Core.Option.{Option, none, some}
 use mathlib.Core.Bool.{Bool, true, false, _&&_, not}
 use native.Mathlib.Omega.{arith}
-use lib.Dec.{T, ltb, eqb, ltb→lt}
+use lib.Dec.{T, eqb}
 use lib.ListN.{length, getD, drop, length-drop}
 use lib.Seq.{drop-drop}
 use lib.Ieee.Fits.{and-i, and-l, and-r}
@@ -15,10 +15,10 @@ use Rattle.number.specs.Number.{numberAt}
 use Rattle.text.specs.Text.{Text}
 use Rattle.text.specs.Read.{Read, _>>=_}
 use Rattle.text.specs.Measured.{Reads}
-use Rattle.frame.specs.Tree.{Value, Schema, Variants, variant, schemaKind}
+use Rattle.frame.specs.Tree.{Value, Schema, schemaKind}
 use Rattle.frame.specs.Readers.{readMany}
 use Rattle.frame.specs.SchemaFrame.{fieldsOf, variantsOf, readField, readSchema}
-use Rattle.frame.specs.Sound.{schemaSound, fieldsSound, variantsSound, kindsSound, positionsSound, countVariants, hasField, defaultAllowed}
+use Rattle.frame.specs.Sound.{schemaSound, fieldsSound, variantsSound, hasField, defaultAllowed}
 use Rattle.frame.specs.Checks.{Spans}
 use Rattle.frame.proofs.Reading.{mapRead, map-inv, reads-some}
 use Rattle.frame.proofs.Measuring.{spans-le, spans-some, spans-rest, spans-eq, spans-drop, spans-map}
@@ -26,6 +26,7 @@ use Rattle.frame.proofs.Counting.{First, many-first, many-none}
 use Rattle.frame.proofs.SchemaNodes.{schema-there, schema-kind}
 use Rattle.schema.specs.Parts.{fieldSound}
 use Rattle.avro.specs.Defaults.{defaultsShort, fieldDefaultsShort, variantDefaultsShort}
+use Rattle.frame.proofs.SoundLaws.{sound-union, sound-variant}
 use Rattle.resolution.specs.Contract.{Ready}
 use Rattle.resolution.specs.Shortness.{SoundRead, testRead, ShortLen, nextLen, fieldShort}
 use Rattle.resolution.proofs.ReadParts.{schema-array, schema-map, schema-fields}
@@ -272,19 +273,6 @@ fields-end d s left at w h =
 
 -- ---- the variants of a union
 
-pub union-sound : (vs : Variants) (ks : List (ℕ × ℕ)) (ns : List ℕ) → T (schemaSound (Schema.Union vs ks ns)) → (0 < countVariants vs) × T (variantsSound vs)
-unfolding schemaSound
-union-sound vs ks ns h =
-    let n = countVariants vs in
-    let g : T (ltb 0 n && variantsSound vs) = and-l (ltb 0 n && variantsSound vs) (kindsSound n 0 ks) (and-l (ltb 0 n && variantsSound vs && kindsSound n 0 ks) (positionsSound n ns) h) in
-    (ltb→lt 0 n (and-l (ltb 0 n) (variantsSound vs) g), and-r (ltb 0 n) (variantsSound vs) g)
-
-pub variant-sound : (v : Schema) (vs : Variants) → T (variantsSound (variant v vs)) → T (schemaSound v) × T (variantsSound vs)
-unfolding schemaSound
-variant-sound v vs h =
-    let n = not (eqb (schemaKind v) 10) in
-    (and-r n (schemaSound v) (and-l (n && schemaSound v) (variantsSound vs) h), and-r (n && schemaSound v) (variantsSound vs) h)
-
 abbrev pub allVariantsSound : List Schema → Bool
 allVariantsSound vs = variantsSound (variantsOf vs)
 
@@ -298,8 +286,8 @@ pub by-variants : Piecewise allVariantsSound allVariantsShort schemaSound defaul
 unfolding variantsOf defaultsShort
 by-variants = record {
   none-short = refl;
-  first-sound = λ v vs h. variant-sound v (variantsOf vs) h .0;
-  others-sound = λ v vs h. variant-sound v (variantsOf vs) h .1;
+  first-sound = λ v vs h. sound-variant v (variantsOf vs) h .schema;
+  others-sound = λ v vs h. sound-variant v (variantsOf vs) h .rest;
   short-both = λ v vs. refl;
 }
 
@@ -316,7 +304,7 @@ module _ (d : ℕ) (s : List ℕ) (w : SoundRead schemaSound (readSchema d s)) (
         items = p .variants;
         rest = p .behind;
         reads = ap (λ k. readMany (readSchema (d - 1)) k (drop 3 s)) q ∙ p .reads-variants;
-        are-sound = union-sound (variantsOf (p .variants)) (p .kinds) (p .named) (subst (λ t. T (schemaSound t)) (p .is) (w .sound)) .1;
+        are-sound = sound-union (variantsOf (p .variants)) (p .kinds) (p .named) (subst (λ t. T (schemaSound t)) (p .is) (w .sound)) .variants;
         are-short = test-some defaultsShort _ (w .tree) (w .rest) (w .reads) ∙ ap defaultsShort (p .is);
         ends = tt;
       }

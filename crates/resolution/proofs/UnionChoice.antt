@@ -15,7 +15,7 @@ use Rattle.frame.specs.Kind
 use Rattle.frame.specs.Tree.{Value, Schema, Variants, kindOf, schemaKind, peel}
 use Rattle.frame.specs.ValueFrame.{encodeValue}
 use Rattle.frame.specs.SchemaFrame as frame
-use Rattle.frame.specs.Sound.{schemaSound, variantsSound, kindsSound, positionsSound, countVariants}
+use Rattle.frame.specs.Sound.{schemaSound, variantsSound, kindsSound, positionsSound}
 use Rattle.types.specs.Types.{Outcome, later}
 use Rattle.types.specs.Contract.{encoded}
 use Rattle.buffer.specs.Built.{Built, Wrote}
@@ -24,6 +24,7 @@ use Rattle.buffer.specs.declared.Answer.the-variants.{Accepted, Refused}
 use Rattle.avro.specs.Union.{Trial, noTrial, schema-to-base-schemakind, unnamedKind, namedKind, lookupKind, takeVariant, unnamedVariant, namedVariant, firstThatResolves, choose, find-schema-with-known-schemata, inUnion, mustBeTried, takes, tableLookup, resolve-union}
 use Rattle.avro.specs.Resolve.{resolve, trials}
 use Rattle.avro.specs.Defaults.{defaultsShort, variantDefaultsShort}
+use Rattle.frame.proofs.SoundLaws.{sound-variant}
 use Rattle.resolution.specs.Contract.{resolvePeeled, peeledBytes, unionVariants, kindTable, namedTable, foundOf}
 use Rattle.resolution.specs.UnionContract.{trialsOf, trialAt, countOf, Tries, FailedAt, isAt, tableOf, namedOf, Stands, TriedFor, soonerOf, NamedAfter, TableFirst}
 use Rattle.find.specs.declared.Found.{Found}
@@ -46,29 +47,15 @@ unfolding trials frame.variantsOf
 trials-length [] w = refl
 trials-length (v ∷ vs) w = ap suc (trials-length vs w)
 
-pub sound-union : (vs : Variants) (ks : List (ℕ × ℕ)) (ns : List ℕ) → T (schemaSound (Schema.Union vs ks ns)) → T (variantsSound vs) × (T (kindsSound (countVariants vs) 0 ks) × T (positionsSound (countVariants vs) ns))
-unfolding schemaSound
-sound-union vs ks ns h =
-    let a = ltb 0 (countVariants vs) in
-    let b = variantsSound vs in
-    let c = kindsSound (countVariants vs) 0 ks in
-    let d = positionsSound (countVariants vs) ns in
-    let abc : T (a && b && c) = and-l (a && b && c) d h in
-    (and-r a b (and-l (a && b) c abc), (and-r (a && b) c abc, and-r (a && b && c) d h))
-
 pub short-union : (vs : Variants) (ks : List (ℕ × ℕ)) (ns : List ℕ) → T (defaultsShort (Schema.Union vs ks ns)) → T (variantDefaultsShort vs)
 unfolding defaultsShort
 short-union vs ks ns h = h
 
 pub sound-nth : (vs : List Schema) (i : ℕ) (z : Schema) → T (variantsSound (frame.variantsOf vs)) → i < length vs → T (schemaSound (getD vs i z))
-unfolding variantsSound frame.variantsOf
+unfolding frame.variantsOf
 sound-nth [] i z t h = absurd (omega arith)
-sound-nth (v ∷ vs) zero z t h =
-    let a = not (eqb (schemaKind v) Kind.Union) in
-    and-r a (schemaSound v) (and-l (a && schemaSound v) (variantsSound (frame.variantsOf vs)) t)
-sound-nth (v ∷ vs) (suc i) z t h =
-    let a = not (eqb (schemaKind v) Kind.Union) in
-    sound-nth vs i z (and-r (a && schemaSound v) (variantsSound (frame.variantsOf vs)) t) (omega arith)
+sound-nth (v ∷ vs) zero z t h = sound-variant v (frame.variantsOf vs) t .schema
+sound-nth (v ∷ vs) (suc i) z t h = sound-nth vs i z (sound-variant v (frame.variantsOf vs) t .rest) (omega arith)
 
 pub short-nth : (vs : List Schema) (i : ℕ) (z : Schema) → T (variantDefaultsShort (frame.variantsOf vs)) → i < length vs → T (defaultsShort (getD vs i z))
 unfolding variantDefaultsShort frame.variantsOf

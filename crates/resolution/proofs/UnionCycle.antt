@@ -27,6 +27,7 @@ use Rattle.buffer.proofs.BuiltLaws.{tail-back, wrote-refused}
 use Rattle.avro.specs.Union.{Trial, noTrial, unnamedKind, namedKind, takeVariant, namedVariant, firstThatResolves, inUnion, mustBeTried, takes, tableLookup}
 use Rattle.avro.specs.Resolve.{trials}
 use Rattle.avro.specs.Defaults.{defaultsShort}
+use Rattle.frame.proofs.SoundLaws.{sound-union}
 use Rattle.resolution.specs.Contract.{Ready, nodeBytes, peeledBytes, variantBytes, kindTable, namedTable, foundOf, wantedOf}
 use Rattle.resolution.specs.UnionContract.{OnRead, OnBoth, Passed, Numbers, Among, WasNamed, TriedBefore, Tries, FailedAt, NoneYet, isAt, baseRead, trialsOf, trialAt, countOf, tableOf, namedOf, firstBytes, Stands, TriedFor, soonerOf, NamedAfter, TableFirst}
 use Rattle.find.specs.declared.Found.{Found}
@@ -36,7 +37,7 @@ use Rattle.resolution.specs.declared.Wanted.{Wanted}
 use Rattle.resolution.specs.declared.Positions.{Positions}
 use Rattle.resolution.proofs.UnionReading.{Parts, union-parts, parts-variants, parts-kinds, parts-named, parts-length, parts-count, passed-start, passed-first, passed-item, passed-variants, on-read, on-read-of, on-both, on-both-of}
 use Rattle.resolution.proofs.UnionTables.{sixth-on}
-use Rattle.resolution.proofs.UnionChoice.{trialOf, trial-nth, trials-length, sound-union, short-union, sound-nth, short-nth, position-below, lookup-below, answer-accepted, indexed, indexed-refused, indexed-accepted, indexed-not, take-accepted, take-untried, take-refused, first-none, first-at, named-none, named-at, named-missed, named-any, takes-by, tries-of, tried-again, tried-other, tried-for, chosen, peeled-chosen, chosen-table, chosen-named, chosen-first, table-first, named-first, neither-first, neither-named}
+use Rattle.resolution.proofs.UnionChoice.{trialOf, trial-nth, trials-length, short-union, sound-nth, short-nth, position-below, lookup-below, answer-accepted, indexed, indexed-refused, indexed-accepted, indexed-not, take-accepted, take-untried, take-refused, first-none, first-at, named-none, named-at, named-missed, named-any, takes-by, tries-of, tried-again, tried-other, tried-for, chosen, peeled-chosen, chosen-table, chosen-named, chosen-first, table-first, named-first, neither-first, neither-named}
 
 -- a result that was written from the sixth byte on
 pub wrote-sixth : (x : Result (List ℕ)) (k : ℕ) (o y : List ℕ) (a : Answer) → k ≡ min 5 (length o) → length y ≡ length o - k → Wrote x y a → Wrote x (drop 5 (take k o ++ (y ++ drop (length o - k) (drop k o)))) a
@@ -98,10 +99,10 @@ module _ (ds : ℕ) (s : List ℕ) (q : Ready ds s) (ten : getD s 0 0 ≡ 10) wh
   sound =
       let z = sound-union (frame.variantsOf (parts .variants)) (parts .kinds) (parts .named) (subst (λ x. T (schemaSound x)) (parts .is) (q .sound)) in
       let c : countVariants (frame.variantsOf (parts .variants)) ≡ countOf (q .tree) = ap countVariants (sym (parts-variants ds s (q .tree) parts)) in (
-        z .0,
+        z .variants,
         (
-          subst (λ n. T (kindsSound n 0 (kindTable (q .tree)))) c (subst (λ ks. T (kindsSound (countVariants (frame.variantsOf (parts .variants))) 0 ks)) (sym (parts-kinds ds s (q .tree) parts)) (z .1 .0)),
-          subst (λ n. T (positionsSound n (namedTable (q .tree)))) c (subst (λ ns. T (positionsSound (countVariants (frame.variantsOf (parts .variants))) ns)) (sym (parts-named ds s (q .tree) parts)) (z .1 .1)),
+          subst (λ n. T (kindsSound n 0 (kindTable (q .tree)))) c (subst (λ ks. T (kindsSound (countVariants (frame.variantsOf (parts .variants))) 0 ks)) (sym (parts-kinds ds s (q .tree) parts)) (z .kinds)),
+          subst (λ n. T (positionsSound n (namedTable (q .tree)))) c (subst (λ ns. T (positionsSound (countVariants (frame.variantsOf (parts .variants))) ns)) (sym (parts-named ds s (q .tree) parts)) (z .positions)),
         ),
       )
 
