@@ -66,11 +66,11 @@ unfoldable pub tableLookup : List (ℕ × ℕ) → Option ℕ → Option ℕ
 tableLookup kinds none = none
 tableLookup kinds (some k) = lookupKind k kinds
 
--- an Array or a Map
+-- an Array or a Map of the kind table is tried before it is taken
 unfoldable pub mustBeTried : ℕ → Bool
 mustBeTried k = eqb k Kind.Map || eqb k Kind.Array
 
--- a variant of the kind table is taken untried, unless it is an Array or a Map
+-- any other variant of the kind table is taken untried
 unfoldable pub takeVariant : List Trial → Option ℕ → Option ℕ
 takeVariant ts none = none
 takeVariant ts (some i) =

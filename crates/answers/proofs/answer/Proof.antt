@@ -1,3 +1,4 @@
+-- `answers::answer` meets its contract.
 use mathlib.Core.Path.{sym}
 use native.Mathlib.Omega.{arith}
 use Rattle.answers.proofs.AnswerLaws.{accepted-is, refused-is, answered}

@@ -1,3 +1,4 @@
+-- `hex::decimal_to` meets its contract.
 use mathlib.Core.Path.{refl, sym}
 use native.Mathlib.Omega.{arith}
 use denote.Ref.{now}

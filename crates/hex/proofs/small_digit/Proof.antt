@@ -1,3 +1,4 @@
+-- `hex::small_digit` meets its contract.
 use mathlib.Core.Path.{sym}
 use Rattle.hex.proofs.DigitLaws.{small-one, small-letter}
 use borrow.Author.Needs.{needs}

@@ -1,3 +1,4 @@
+-- `hex::to_hex` meets its contract.
 use mathlib.Core.Path.{_≡_, refl}
 use mathlib.Core.List.{_++_}
 use Prim.Native.Nat.{_*_, _-_, _≤_}

@@ -1,3 +1,4 @@
+-- `hulmbax::record_stop` meets its contract.
 use mathlib.Core.Path.{sym, _∙_}
 use Rattle.hulmbax.proofs.EntryLaws.{stop-no-value, stop-unsound-value, stop-value}
 use borrow.Author.Needs.{needs}

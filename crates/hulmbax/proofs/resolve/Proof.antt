@@ -1,3 +1,4 @@
+-- `hulmbax::resolve` meets its contract.
 use mathlib.Core.Path.{_≡_, sym, ap, _∙_}
 use lib.ListN.{length, drop}
 use lib.Seq.{length-take-le, take-at}

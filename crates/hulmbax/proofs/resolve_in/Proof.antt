@@ -1,3 +1,4 @@
+-- `hulmbax::resolve_in` meets its contract.
 use mathlib.Core.Path.{_∙_}
 use Rattle.hulmbax.proofs.EntryLaws.{passed, stopped-schema, stopped-value}
 use borrow.Author.Needs.{needs}

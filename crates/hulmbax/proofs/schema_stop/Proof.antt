@@ -1,3 +1,4 @@
+-- `hulmbax::schema_stop` meets its contract.
 use mathlib.Core.Path.{sym, _∙_}
 use denote.Ref.{now}
 use Rattle.hulmbax.proofs.EntryLaws.{stop-no-schema, stop-unsound, sound-frame, sound-reads, stop-by-defaults}

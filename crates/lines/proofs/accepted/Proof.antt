@@ -1,3 +1,4 @@
+-- `lines::accepted` meets its contract.
 use Rattle.lines.proofs.LineLaws.{ok-line}
 use borrow.Author.Needs.{needs}
 use Rattle.lines.proofs.accepted.Statement.{statement}

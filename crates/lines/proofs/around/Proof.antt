@@ -1,3 +1,4 @@
+-- `lines::around` meets its contract.
 use Rattle.lines.specs.Cut.{newline}
 use native.Mathlib.Omega.{arith}
 use mathlib.Core.Path.{refl}

@@ -1,3 +1,4 @@
+-- `lines::frame` meets its contract.
 use mathlib.Core.Logic.{inl, inr}
 use Rattle.lines.proofs.LineLaws.{frame-of, no-frame}
 use borrow.Author.Needs.{needs}

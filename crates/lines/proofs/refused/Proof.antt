@@ -1,3 +1,4 @@
+-- `lines::refused` meets its contract.
 use native.Mathlib.Omega.{arith}
 use Rattle.lines.proofs.LineLaws.{no-line}
 use borrow.Author.Needs.{needs}

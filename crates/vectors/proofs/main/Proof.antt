@@ -1,3 +1,4 @@
+-- `vectors::main` meets its contract.
 use Prim.Native.Nat.{ℕ}
 use lib.ListN.{length-replicate}
 use borrow.Author.Needs.{needs}

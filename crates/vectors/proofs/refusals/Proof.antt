@@ -1,3 +1,4 @@
+-- `vectors::refusals` meets its contract.
 use borrow.Author.Needs.{needs}
 use Prim.Native.Nat.{_≤_, _-_}
 use Rattle.vectors.proofs.refusals.Statement.{statement}

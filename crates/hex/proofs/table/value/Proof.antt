@@ -1,3 +1,4 @@
+-- `hex::table::value` meets its contract.
 use mathlib.Core.Path.{_∙_, ap}
 use mathlib.Core.List.{List}
 use Prim.Native.Nat.{ℕ}

@@ -1,3 +1,4 @@
+-- `hex::table::values` meets its contract.
 use mathlib.Core.Path.{refl}
 use Rattle.uuid.specs.Uuid.{hexDigit}
 use Rattle.uuid.specs.Forms.{orSixteen}

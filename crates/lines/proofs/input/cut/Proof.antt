@@ -1,3 +1,4 @@
+-- `lines::input::cut` meets its contract.
 use borrow.Author.Needs.{needs}
 use mathlib.Core.Path.{refl}
 use Rattle.lines.proofs.HeldLaws.{cut-held, cut-open, cut-whole}

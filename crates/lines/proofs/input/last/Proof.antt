@@ -1,3 +1,4 @@
+-- `lines::input::last` meets its contract.
 use borrow.Author.Needs.{needs}
 use mathlib.Core.Path.{refl, sym, ap}
 use mathlib.Core.Bool.{Bool, _||_}

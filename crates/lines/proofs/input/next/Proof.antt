@@ -1,3 +1,4 @@
+-- `lines::input::next` meets its contract.
 use mathlib.Core.Path.{_≡_}
 use lib.ListN.{length}
 use Rattle.lines.specs.Held.{Held}

@@ -1,3 +1,4 @@
+-- `lines::input::refilled` meets its contract.
 use borrow.Author.Needs.{needs}
 use native.Mathlib.Omega.{arith}
 use Rattle.lines.proofs.input.refilled.Statement.{statement}

@@ -1,3 +1,4 @@
+-- `resolution::leaf::leaf_decimal` meets its contract.
 use native.Mathlib.Omega.{arith}
 use Rattle.resolution.proofs.LeafSchemas.{decimal-long, sized-long, unsized-outcome, sized-outcome}
 use Rattle.resolution.proofs.Pieces.{wrote-eq}

@@ -1,3 +1,4 @@
+-- `resolution::leaf::leaf_fixed` meets its contract.
 use Rattle.resolution.proofs.LeafSchemas.{fixed-long, fixed-outcome}
 use Rattle.resolution.proofs.Pieces.{wrote-eq}
 use borrow.Author.Needs.{needs}

@@ -1,3 +1,4 @@
+-- `resolution::leaf::leaf_uuid` meets its contract.
 use Rattle.resolution.proofs.LeafSchemas.{uuid-long, uuid-fixed-long, uuid-bytes-outcome, uuid-string-outcome, uuid-fixed-outcome}
 use Rattle.resolution.proofs.Pieces.{wrote-eq}
 use borrow.Author.Needs.{needs}

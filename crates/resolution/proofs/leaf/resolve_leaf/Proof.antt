@@ -1,3 +1,4 @@
+-- `resolution::leaf::resolve_leaf` meets its contract.
 use Rattle.resolution.proofs.LeafSchemas.{kind-below, plain-kind, bytes-outcome, string-outcome, enum-outcome, duration-outcome, plain-outcome}
 use Rattle.resolution.proofs.Pieces.{wrote-eq}
 use borrow.Author.Needs.{needs}

@@ -1,3 +1,4 @@
+-- `resolution::reach::field_reach` meets its contract.
 use native.Mathlib.Omega.{arith}
 use Rattle.frame.proofs.Measuring.{spans-le}
 use Rattle.resolution.proofs.reach.field_reach.Statement.{statement}

@@ -1,3 +1,4 @@
+-- The functions of `resolution::resolve` that call one another meet their contracts.
 use borrow.Author.Needs.{needs}
 use native.Mathlib.Omega.{arith}
 use Prim.Native.Nat.{ℕ, _+_, _-_, _*_, _≤_, _<_}

@@ -1,3 +1,4 @@
+-- `resolution::union::base_kind` meets its contract.
 use native.Mathlib.Omega.{arith}
 use Rattle.text.specs.Measured.{Reads}
 use Rattle.frame.proofs.SchemaNodes.{schema-there}

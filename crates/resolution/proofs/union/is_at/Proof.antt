@@ -1,3 +1,4 @@
+-- `resolution::union::is_at` meets its contract.
 use Rattle.resolution.specs.UnionContract.{isAt}
 use borrow.Author.Needs.{needs}
 use Rattle.resolution.proofs.union.is_at.Statement.{statement}

@@ -1,3 +1,4 @@
+-- `resolution::union::is_tried` meets its contract.
 use mathlib.Core.Path.{sym, ap, _∙_}
 use Rattle.text.specs.Measured.{Reads}
 use Rattle.frame.proofs.SchemaNodes.{schema-there, schema-kind}

@@ -1,3 +1,4 @@
+-- `resolution::union::look_up` meets its contract.
 use native.Mathlib.Omega.{arith}
 use Rattle.frame.proofs.Counting.{reads-list}
 use Rattle.resolution.proofs.UnionTables.{Looking, looking-start, looking-end, looking-inside, looking-hit, looking-step}

@@ -1,3 +1,4 @@
+-- `resolution::union::named_at` meets its contract.
 use borrow.Author.Needs.{needs}
 use Rattle.text.specs.Measured.{Reads}
 use Rattle.resolution.proofs.UnionReading.{on-read-of, union-parts, table-inside, named-inside, named-numbers}

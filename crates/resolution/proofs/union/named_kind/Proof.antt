@@ -1,3 +1,4 @@
+-- `resolution::union::named_kind` meets its contract.
 use mathlib.Core.Path.{sym}
 use Rattle.resolution.specs.Contract.{wantedOf}
 use Rattle.resolution.proofs.UnionKinds.{named-map, named-low, named-itself, named-fixed, named-duration, named-none}

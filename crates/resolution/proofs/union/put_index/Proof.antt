@@ -1,3 +1,4 @@
+-- `resolution::union::put_index` meets its contract.
 use Rattle.resolution.proofs.UnionTables.{index-over, index-before, index-same}
 use borrow.Author.Needs.{needs}
 use Rattle.resolution.proofs.union.put_index.Statement.{statement}

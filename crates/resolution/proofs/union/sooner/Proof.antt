@@ -1,3 +1,4 @@
+-- `resolution::union::sooner` meets its contract.
 use Rattle.resolution.specs.UnionContract.{soonerOf}
 use Rattle.resolution.proofs.UnionKinds.{table-sooner, named-sooner}
 use borrow.Author.Needs.{needs}

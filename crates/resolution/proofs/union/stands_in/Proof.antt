@@ -1,3 +1,4 @@
+-- `resolution::union::stands_in` meets its contract.
 use borrow.Author.Count.{below-more}
 use native.Mathlib.Omega.{arith}
 use Prim.Native.Nat.{ℕ, _+_, _-_, _*_, _≤_, _<_}

@@ -1,3 +1,4 @@
+-- `resolution::union::table_position` meets its contract.
 use borrow.Author.Needs.{needs}
 use borrow.Rule.Slice.PartAt.{part-to-end}
 use mathlib.Core.Path.{sym, ap, _∙_}

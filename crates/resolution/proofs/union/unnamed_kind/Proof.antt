@@ -1,3 +1,4 @@
+-- `resolution::union::unnamed_kind` meets its contract.
 use mathlib.Core.Path.{sym}
 use native.Mathlib.Omega.{arith}
 use Rattle.resolution.specs.Contract.{wantedOf}

@@ -1,3 +1,4 @@
+-- `resolution::union::was_named` meets its contract.
 use Rattle.resolution.proofs.UnionKinds.{was-any, was-other, was-among}
 use borrow.Author.Needs.{needs}
 use Rattle.resolution.proofs.union.was_named.Statement.{statement}

@@ -1,3 +1,4 @@
+-- `schema::plain::is_bare` meets its contract.
 use mathlib.Core.Path.{refl}
 use native.Mathlib.Omega.{arith}
 use borrow.Author.Tests.{le-leb, lt-leb}
