@@ -14,11 +14,10 @@ use Rattle.base.specs.Base.{Result, ok, stop, after}
 use Rattle.number.specs.Number.{allBytes, numberAt, bytesOf}
 use Rattle.text.specs.Text.{Text}
 use Rattle.text.specs.Measured.{Reads}
-use Rattle.schema.specs.Parts.{Field}
 use Rattle.frame.specs.Tree.{Value, Entries, Schema, Fields, noEntries, entry, kindOf, entries, peel}
 use Rattle.frame.specs.Readers.{readMany}
 use Rattle.frame.specs.ValueFrame.{entriesOf, readEntry, readValue, writeText, countEntries, encodeValue, encodeEntries}
-use Rattle.frame.specs.SchemaFrame.{fieldsOf, readField, readSchema}
+use Rattle.frame.specs.SchemaFrame.{Field, fieldsOf, readField, readSchema}
 use Rattle.frame.specs.Sound.{schemaSound, fieldsSound, hasField, defaultAllowed}
 use Rattle.frame.proofs.Reading.{read-what, bind-some, map-inv, reads-some, reads-eq, reads-first}
 use Rattle.frame.proofs.Counting.{many-length}

@@ -16,7 +16,7 @@ use Rattle.text.specs.Measured.{Reads}
 use Rattle.text.proofs.ReadLaws.{reads-counted, readText-counted}
 use Rattle.frame.specs.Tree.{Value, entries}
 use Rattle.frame.specs.ValueFrame.{readEntry, readValue, writeText}
-use Rattle.frame.specs.SchemaFrame.{readField, readSchema}
+use Rattle.frame.specs.SchemaFrame.{Field, readField, readSchema}
 use Rattle.frame.specs.Sound.{schemaSound}
 use Rattle.frame.proofs.Reading.{read-what, read-rest, bind-inv, map-inv, reads-some}
 use Rattle.avro.specs.Resolve.{lookup, fieldValue, startDefault}
@@ -25,7 +25,6 @@ use Rattle.find.specs.Find.{Located, entryUnder}
 use Rattle.field.specs.Parts.{DefaultAt, FieldParts}
 use Rattle.types.specs.Contract.{onBoth}
 use Rattle.find.proofs.FindLaws.{located-at, located-nothing}
-use Rattle.schema.specs.Parts.{Field}
 use Rattle.schema.proofs.Checking.{name-is as field-name}
 use Rattle.resolution.specs.Contract.{Ready, ReadyField, ReadyDefault, nodeBytes, entryBytes, defaultBytes, fieldBytes}
 use Rattle.find.specs.declared.Found.the-variants.{At, Nothing}

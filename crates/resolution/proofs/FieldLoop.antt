@@ -10,11 +10,10 @@ use lib.ListN.{length, getD, take, drop}
 use Rattle.number.specs.Number.{allBytes, numberAt}
 use Rattle.text.specs.Read.{Read}
 use Rattle.text.specs.Measured.{Reads}
-use Rattle.schema.specs.Parts.{Field}
 use Rattle.frame.specs.Readers.{readMany}
 use Rattle.frame.specs.Checks.{Spans}
 use Rattle.frame.specs.ValueFrame.{readValue}
-use Rattle.frame.specs.SchemaFrame.{readField, readSchema}
+use Rattle.frame.specs.SchemaFrame.{Field, readField, readSchema}
 use borrow.Author.Tests.{leb-true, leb-false}
 use Rattle.frame.proofs.Reading.{bind-some, read-what}
 use Rattle.frame.proofs.Counting.{Split, many-split, many-zero}

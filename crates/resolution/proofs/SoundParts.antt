@@ -3,7 +3,7 @@
 use Prim.Native.Nat.{ℕ, zero, suc, _+_, _-_, _≤_, _<_}
 use mathlib.Core.Path.{_≡_, refl, sym, ap, _∙_, subst}
 use mathlib.Core.List.{List, [], _∷_}
-use mathlib.Core.Option.{Option, none, some}
+use mathlib.Core.Option.{none, some}
 use mathlib.Core.Bool.{Bool, true, false, _&&_, not}
 use native.Mathlib.Omega.{arith}
 use lib.Dec.{T, eqb}
@@ -12,12 +12,11 @@ use lib.Seq.{drop-drop}
 use lib.Ieee.Fits.{and-i, and-l, and-r}
 use borrow.Author.Tests.{ne-eqb}
 use Rattle.number.specs.Number.{numberAt}
-use Rattle.text.specs.Text.{Text}
 use Rattle.text.specs.Read.{Read, _>>=_}
 use Rattle.text.specs.Measured.{Reads}
-use Rattle.frame.specs.Tree.{Value, Schema, schemaKind}
+use Rattle.frame.specs.Tree.{Schema, schemaKind}
 use Rattle.frame.specs.Readers.{readMany}
-use Rattle.frame.specs.SchemaFrame.{fieldsOf, variantsOf, readField, readSchema}
+use Rattle.frame.specs.SchemaFrame.{Field, fieldsOf, variantsOf, readField, readSchema}
 use Rattle.frame.specs.Sound.{schemaSound, fieldsSound, variantsSound, hasField, defaultAllowed}
 use Rattle.frame.specs.Checks.{Spans}
 use Rattle.frame.proofs.Reading.{mapRead, map-inv, reads-some}
@@ -225,10 +224,10 @@ module _ {A : Type 0} {p : List ℕ → Read A} {sound short : List A → Bool} 
 
 -- ---- the fields of a record
 
-abbrev pub allFieldsSound : List (Text × Option Value × Schema) → Bool
+abbrev pub allFieldsSound : List Field → Bool
 allFieldsSound fs = fieldsSound (fieldsOf fs)
 
-abbrev pub allFieldsShort : List (Text × Option Value × Schema) → Bool
+abbrev pub allFieldsShort : List Field → Bool
 allFieldsShort fs = fieldDefaultsShort (fieldsOf fs)
 
 -- behind the fields stands what is behind their record

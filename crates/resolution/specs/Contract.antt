@@ -10,7 +10,7 @@ use Rattle.text.specs.Text.{Text}
 use Rattle.frame.specs.Kind
 use Rattle.frame.specs.Tree.{Value, Schema, Variants, entries}
 use Rattle.frame.specs.ValueFrame.{readValue, writeText}
-use Rattle.frame.specs.SchemaFrame.{readSchema, readField}
+use Rattle.frame.specs.SchemaFrame.{Field, readSchema, readField}
 use Rattle.frame.specs.Sound.{schemaSound}
 use Rattle.types.specs.Types.{Outcome}
 use Rattle.types.specs.Contract.{encoded}
@@ -72,7 +72,7 @@ unfoldable pub defaultBytes : Schema → Value → Result (List ℕ)
 defaultBytes t d = after (startDefault t d) (λ w. nodeBytes t w)
 
 -- the bytes of a field, for the Record or Map that it is looked for in
-unfoldable pub fieldBytes : Text × Option Value × Schema → Value → Result (List ℕ)
+unfoldable pub fieldBytes : Field → Value → Result (List ℕ)
 fieldBytes f w = after (fieldValue (lookup (f .0) (entries w)) (f .1) (λ d. startDefault (f .2) d))
     (λ x. after (nodeBytes (f .2) x) (λ b. ok (writeText (f .0) ++ b)))
 

@@ -2,12 +2,11 @@
 use Prim.Native.Nat.{ℕ, zero, suc}
 use mathlib.Core.Path.{_≡_}
 use mathlib.Core.List.{List}
-use mathlib.Core.Option.{Option, none, some}
+use mathlib.Core.Option.{none, some}
 use mathlib.Core.Bool.{Bool, true, false, _&&_}
 use lib.Dec.{T}
-use Rattle.text.specs.Text.{Text}
 use Rattle.text.specs.Read.{Read}
-use Rattle.frame.specs.Tree.{Value, Schema}
+use Rattle.frame.specs.SchemaFrame.{Field}
 use Rattle.frame.specs.Checks.{Spans}
 use Rattle.avro.specs.Defaults.{defaultsShort, shortDefault}
 
@@ -34,5 +33,5 @@ nextLen zero = zero
 nextLen (suc n) = suc (suc n)
 
 -- a field by itself: its default is short, and so are those inside its schema
-unfoldable pub fieldShort : Text × Option Value × Schema → Bool
+unfoldable pub fieldShort : Field → Bool
 fieldShort f = shortDefault (f .2) (f .1) && defaultsShort (f .2)

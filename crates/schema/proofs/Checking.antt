@@ -16,7 +16,7 @@ use Rattle.text.specs.Measured.{Reads}
 use Rattle.text.proofs.ReadLaws.{reads-text}
 use Rattle.frame.specs.Tree.{Schema, schemaKind}
 use Rattle.frame.specs.Readers.{readList}
-use Rattle.frame.specs.SchemaFrame.{fieldsOf, variantsOf, readField, readLead, readSchemaContent, readSchema}
+use Rattle.frame.specs.SchemaFrame.{Field, fieldsOf, variantsOf, readField, readLead, readSchemaContent, readSchema}
 use Rattle.frame.specs.Sound.{schemaSound, variantsSound, kindsSound, positionsSound, countVariants, hasField}
 use Rattle.frame.specs.Checks.{Checks, Spans}
 use Rattle.frame.specs.declared.Checked.the-variants.{Of}
@@ -24,7 +24,7 @@ use Rattle.frame.proofs.Reading.{read-what, bind-some, reads-some, reads-first}
 use Rattle.frame.proofs.Measuring.{Held, held, checks-some, checks-reads}
 use Rattle.frame.proofs.Counting.{many-length, list-many, reads-list, Going, going-step, Left, left-first, left-step}
 use Rattle.frame.proofs.SchemaNodes.{schema-there, schema-kind, count-variants}
-use Rattle.schema.specs.Parts.{Field, eachSound, namesDiffer, noUnions}
+use Rattle.schema.specs.Parts.{eachSound, namesDiffer, noUnions}
 use Rattle.schema.proofs.Nodes.{union-got, record-content}
 use Rattle.schema.proofs.Seeking.{field-name, fields-sound}
 

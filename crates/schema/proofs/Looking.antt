@@ -17,13 +17,13 @@ use Rattle.text.specs.Measured.{Reads}
 use Rattle.text.proofs.TextLaws.{same-refl, same→≡}
 use Rattle.frame.specs.Tree.{Schema}
 use Rattle.frame.specs.Readers.{readMany, readList}
-use Rattle.frame.specs.SchemaFrame.{fieldsOf, readField}
+use Rattle.frame.specs.SchemaFrame.{Field, fieldsOf, readField}
 use Rattle.frame.specs.Sound.{hasField}
 use Rattle.frame.specs.Checks.{Spans}
 use Rattle.frame.proofs.Reading.{read-what, read-rest, bind-some, reads-some}
 use Rattle.frame.proofs.Measuring.{spans-rest}
 use Rattle.frame.proofs.Counting.{First, many-first, reads-list, Left, left-start, left-first, left-step, left-end}
-use Rattle.schema.specs.Parts.{Field, namesDiffer}
+use Rattle.schema.specs.Parts.{namesDiffer}
 use Rattle.schema.specs.Slot.{slots, lowOf, highOf, markOf, marked, mayBe, nameMark}
 use Rattle.schema.proofs.Checking.{seeks, name-is}
 

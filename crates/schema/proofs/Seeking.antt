@@ -9,10 +9,10 @@ use Rattle.text.proofs.ReadLaws.{readText-counted}
 use Rattle.frame.specs.Tree.{Schema}
 use Rattle.frame.specs.Readers.{readOption}
 use Rattle.frame.specs.ValueFrame.{readValue}
-use Rattle.frame.specs.SchemaFrame.{fieldsOf, readField}
+use Rattle.frame.specs.SchemaFrame.{Field, fieldsOf, readField}
 use Rattle.frame.specs.Sound.{schemaSound, fieldsSound, defaultAllowed, hasField}
 use Rattle.frame.proofs.Reading.{read-what, bind-inv}
-use Rattle.schema.specs.Parts.{Field, eachSound, namesDiffer}
+use Rattle.schema.specs.Parts.{eachSound, namesDiffer}
 
 -- ---- the name of a field that was read
 

@@ -1,14 +1,9 @@
 -- What a schema is asked of the parts of a record and of a union, one by one and together.
 use mathlib.Core.List.{List, [], _∷_}
-use mathlib.Core.Option.{Option}
 use mathlib.Core.Bool.{Bool, true, _&&_, not}
-use Rattle.text.specs.Text.{Text}
-use Rattle.frame.specs.Tree.{Value, Schema}
-use Rattle.frame.specs.SchemaFrame.{fieldsOf, variantsOf}
+use Rattle.frame.specs.Tree.{Schema}
+use Rattle.frame.specs.SchemaFrame.{Field, fieldsOf, variantsOf}
 use Rattle.frame.specs.Sound.{schemaSound, variantsSound, defaultAllowed, hasField}
-
-abbrev pub Field : Type 0
-Field = Text × Option Value × Schema
 
 abbrev pub fieldSound : Field → Bool
 fieldSound f = defaultAllowed (f .1) && schemaSound (f .2)

@@ -10,9 +10,9 @@ ghost use Prim.Native.Nat.{ℕ, _≤_};
 ghost use lib.ListN.{length};
 ghost use Rattle.text.specs.Measured.{Reads};
 ghost use Rattle.frame.specs.Readers.{readMany, readList};
-ghost use Rattle.frame.specs.SchemaFrame.{readField, readSchema, fieldsOf};
+ghost use Rattle.frame.specs.SchemaFrame.{Field, readField, readSchema, fieldsOf};
 ghost use Rattle.frame.specs.Sound.{hasField};
-ghost use Rattle.schema.specs.Parts.{Field, namesDiffer};
+ghost use Rattle.schema.specs.Parts.{namesDiffer};
 ghost use Rattle.schema.specs.Slot.{slots, lowOf, highOf, markOf, marked, mayBe};
 
 // The slot in the lower half of the table.
