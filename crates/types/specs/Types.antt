@@ -60,16 +60,43 @@ resolve-double v =
     if is Kind.String v then special Kind.Double doubleOfFloat (parse-special-float (octets v)) else
     stop 6
 
--- resolve_date and resolve_time_millis
+-- a date or time of 4 bytes
 unfoldable pub resolveIntTime : ℕ → Value → Outcome
 resolveIntTime k v = if is k v || is Kind.Int v then ok (Value.Scalar k (number v)) else stop 6
 
--- resolve_time_micros to resolve_local_timestamp_nanos
+-- a time of 8 bytes
 unfoldable pub resolveLongTime : ℕ → Value → Outcome
 resolveLongTime k v =
     if is k v || is Kind.Long v then ok (Value.Scalar k (number v)) else
     if is Kind.Int v then ok (Value.Scalar k (longOfInt (number v))) else
     stop 6
+
+abbrev pub resolve-date : Value → Outcome
+resolve-date v = resolveIntTime Kind.Date v
+
+abbrev pub resolve-time-millis : Value → Outcome
+resolve-time-millis v = resolveIntTime Kind.TimeMillis v
+
+abbrev pub resolve-time-micros : Value → Outcome
+resolve-time-micros v = resolveLongTime Kind.TimeMicros v
+
+abbrev pub resolve-timestamp-millis : Value → Outcome
+resolve-timestamp-millis v = resolveLongTime Kind.TimestampMillis v
+
+abbrev pub resolve-timestamp-micros : Value → Outcome
+resolve-timestamp-micros v = resolveLongTime Kind.TimestampMicros v
+
+abbrev pub resolve-timestamp-nanos : Value → Outcome
+resolve-timestamp-nanos v = resolveLongTime Kind.TimestampNanos v
+
+abbrev pub resolve-local-timestamp-millis : Value → Outcome
+resolve-local-timestamp-millis v = resolveLongTime Kind.LocalTimestampMillis v
+
+abbrev pub resolve-local-timestamp-micros : Value → Outcome
+resolve-local-timestamp-micros v = resolveLongTime Kind.LocalTimestampMicros v
+
+abbrev pub resolve-local-timestamp-nanos : Value → Outcome
+resolve-local-timestamp-nanos v = resolveLongTime Kind.LocalTimestampNanos v
 
 -- ---- bytes and texts
 
@@ -195,7 +222,7 @@ validate-symbol symbols default s = orDefault symbols default (enumAt s (positio
 unfoldable pub resolve-enum : List Text → Option Text → Value → Outcome
 resolve-enum symbols default v = if is Kind.Enum v || is Kind.String v then validate-symbol symbols default (octets v) else stop 6
 
--- a schema without content
+-- a schema without content: the arms of `resolve_internal` for these kinds (proofs/PlainKinds.antt has them one by one)
 unfoldable pub resolvePlain : ℕ → Value → Outcome
 resolvePlain k v =
     if eqb k Kind.Null then resolve-null v else
