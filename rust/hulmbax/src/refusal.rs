@@ -1,13 +1,13 @@
 // The eighteen refusals of document 01, with a sentence for each.
-use std::error::Error;
 use std::fmt;
 
-/// Why a record was not brought to the schema.
+/// The library's answer to a schema that it doesn't take, or to a record that it doesn't bring to
+/// the schema.
 ///
-/// The numbers are those of document 01, in its checking order. A refused call leaves the result
-/// buffer as it was.
+/// The numbers are those of document 01, the scope, and the library looks for them in their order.
 #[derive(Clone, Copy, Debug, PartialEq, Eq, PartialOrd, Ord, Hash)]
 #[repr(u8)]
+#[non_exhaustive]
 pub enum Refusal {
     /// 1: the workspace is shorter than 65,536 bytes.
     WorkspaceTooShort = 1,
@@ -49,7 +49,7 @@ pub enum Refusal {
 
 use Refusal::*;
 
-/// In the order of their numbers.
+// In the order of their numbers.
 const ALL: [Refusal; 18] = [
     WorkspaceTooShort,
     SchemaNoFrame,
@@ -72,23 +72,30 @@ const ALL: [Refusal; 18] = [
 ];
 
 impl Refusal {
-    /// Document 01's number, 1 to 18.
+    /// The number, as program `resolve` and the C interface give it.
     pub fn number(self) -> u8 {
         self as u8
     }
 
-    /// The refusal of a number, if it is 1 to 18.
+    /// The refusal of a number, if there is one.
+    ///
+    /// ```
+    /// use hulmbax::Refusal;
+    ///
+    /// assert_eq!(Refusal::from_number(17), Some(Refusal::FieldMissing));
+    /// assert_eq!(Refusal::FieldMissing.number(), 17);
+    /// ```
     pub fn from_number(number: u8) -> Option<Refusal> {
         ALL.into_iter().find(|r| r.number() == number)
     }
 
-    /// All eighteen, in the order of their numbers.
-    pub fn all() -> [Refusal; 18] {
-        ALL
+    /// All of them, in the order of their numbers.
+    pub fn all() -> &'static [Refusal] {
+        &ALL
     }
 
-    /// What to tell whoever sent the record or wrote the schema.
-    fn sentence(self) -> &'static str {
+    /// A sentence for whoever sent the record or wrote the schema, without the number.
+    pub fn sentence(self) -> &'static str {
         match self {
             WorkspaceTooShort => "the workspace is shorter than 65,536 bytes",
             SchemaNoFrame => "the reader schema is no frame: a byte, length or text in it is wrong, bytes are left over, or it is nested deeper than 16",
@@ -118,7 +125,7 @@ impl fmt::Display for Refusal {
     }
 }
 
-impl Error for Refusal {}
+impl std::error::Error for Refusal {}
 
 #[cfg(test)]
 mod tests {
@@ -140,7 +147,7 @@ mod tests {
 
     #[test]
     fn no_two_sentences_are_equal() {
-        let mut sentences = Refusal::all().map(Refusal::sentence).to_vec();
+        let mut sentences: Vec<_> = Refusal::all().iter().map(|r| r.sentence()).collect();
         sentences.sort_unstable();
         sentences.dedup();
         assert_eq!(sentences.len(), 18);

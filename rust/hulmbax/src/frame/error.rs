@@ -4,6 +4,7 @@ use std::fmt;
 
 /// Why a value or a schema has no frame, why bytes are no frame, or why variants make no union.
 #[derive(Clone, Copy, Debug, PartialEq, Eq)]
+#[non_exhaustive]
 pub enum FrameError {
     /// The frame would be longer than 65,535 bytes, or is.
     TooLong,

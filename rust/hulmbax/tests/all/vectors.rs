@@ -1,7 +1,7 @@
 // The recorded answers of apache-avro, from Rust: each frame is read and written again, and each
 // record is resolved.
 use crate::common::{bytes, line, resolved};
-use hulmbax::frame::{Schema, Value};
+use hulmbax::{Schema, Value};
 
 const RECORDED: &str = concat!(env!("CARGO_MANIFEST_DIR"), "/../../crates/vectors/stdin");
 
