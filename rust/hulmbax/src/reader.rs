@@ -189,10 +189,10 @@ impl Buffers {
         }
     }
 
-    // What is wrong with a schema. The library looks at it before it looks at the record, and no
-    // bytes are no record: if that is what it refuses, the schema is sound.
+    // What is wrong with a schema, if anything is: the library looks at it before it looks at the
+    // record, which is none here.
     fn unsound(&mut self, schema: &[u8]) -> Option<Refusal> {
         let answer = self.resolve(schema, &[]).err();
-        answer.filter(|refusal| *refusal != Refusal::RecordNoFrame)
+        answer.filter(|refusal| refusal.is_of_schema())
     }
 }

@@ -7,14 +7,14 @@ use crate::{Error, Refusal, Value};
 /// The error of a record that the library refused: `ask` is the library, which tells of a part of
 /// the schema and of the record what stops it, if anything does.
 ///
-/// A refusal that isn't of the record's content (1 to 5, and 18) is the root's.
+/// A refusal that isn't of the record's content has no place in it, and is the root's.
 pub(crate) fn refused_record(
     schema: &Schema,
     record: &Value,
     refusal: Refusal,
     ask: impl FnMut(&Schema, &Value) -> Option<Refusal>,
 ) -> Error {
-    if !of_content(refusal) {
+    if !refusal.is_of_content() {
         return refusal.into();
     }
     Search {
@@ -22,11 +22,6 @@ pub(crate) fn refused_record(
         steps: Vec::new(),
     }
     .error(schema, record, refusal)
-}
-
-// Whether the refusal is of what the record holds: not of the frames, and not of the room.
-fn of_content(refusal: Refusal) -> bool {
-    (Refusal::Unsuited..=Refusal::FieldMissing).contains(&refusal)
 }
 
 struct Search<F> {
@@ -39,7 +34,7 @@ impl<F: FnMut(&Schema, &Value) -> Option<Refusal>> Search<F> {
     // What stops this part; that its result is too long is no reason, since the record was refused
     // for its content.
     fn stops(&mut self, schema: &Schema, value: &Value) -> Option<Refusal> {
-        (self.ask)(schema, value).filter(|refusal| of_content(*refusal))
+        (self.ask)(schema, value).filter(|refusal| refusal.is_of_content())
     }
 
     // The error of a part that was refused: that of the first of its children that is, or its own.

@@ -108,6 +108,15 @@ fn a_path_leads_to_what_is_refused() {
                 "{error}: {got:?}, {}, {value}",
                 reader.schema()
             );
+            // a union tells why its one variant besides Null refused, where that was tried
+            let in_default = path.steps().last() == Some(&Step::Default);
+            let tried = *refusal == Refusal::NoVariant && !in_default;
+            assert_eq!(
+                cause.is_some(),
+                tried,
+                "{error}: {}, {value}",
+                reader.schema()
+            );
             deep += usize::from(path.steps().len() > 1);
             causes += usize::from(cause.is_some());
             next = cause.as_deref();
