@@ -31,26 +31,22 @@ struct Search<F> {
 }
 
 impl<F: FnMut(&Schema, &Value) -> Option<Refusal>> Search<F> {
-    // What stops this part; that its result is too long is no reason, since the record was refused
-    // for its content.
-    fn stops(&mut self, schema: &Schema, value: &Value) -> Option<Refusal> {
-        (self.ask)(schema, value).filter(|refusal| refusal.is_of_content())
-    }
-
-    // The error of a part that was refused: that of the first of its children that is, or its own.
+    // The error of a part that was refused: that of the first of its children that is refused with
+    // the same answer, or its own. So the answer that is told is always the library's.
     fn error(&mut self, schema: &Schema, value: &Value, refusal: Refusal) -> Error {
         let child = match (schema, peeled(value)) {
             (Schema::Record(record), Value::Record(_) | Value::Map(_)) => {
-                self.in_fields(&record.fields, peeled(value))
+                self.in_fields(&record.fields, peeled(value), refusal)
             }
-            (Schema::Array(array), Value::Array(items)) => self.in_items(&array.items, items),
-            (Schema::Bytes, Value::Array(items)) => self.in_bytes(items),
-            (Schema::Map(map), Value::Map(entries)) => self.first(
-                entries
-                    .iter()
-                    .map(|(key, entry)| (Step::Key(key.clone()), &*map.types, entry)),
-            ),
-            (Schema::Union(union), value) => return self.in_union(union, value, refusal),
+            (Schema::Array(array), Value::Array(items)) => {
+                let mut items = items.iter().enumerate();
+                items.find_map(|(i, item)| self.child(Step::Index(i), &array.items, item, refusal))
+            }
+            (Schema::Map(map), Value::Map(entries)) => entries.iter().find_map(|(key, entry)| {
+                self.child(Step::Key(key.clone()), &map.types, entry, refusal)
+            }),
+            (Schema::Bytes, Value::Array(items)) => self.in_bytes(items, refusal),
+            (Schema::Union(union), value) => self.in_union(union, value, refusal),
             _ => None,
         };
         child.unwrap_or_else(|| self.here(refusal, None))
@@ -66,84 +62,78 @@ impl<F: FnMut(&Schema, &Value) -> Option<Refusal>> Search<F> {
         }
     }
 
-    // The error of the first of the parts that is refused, if one is.
-    fn first<'a>(
-        &mut self,
-        parts: impl Iterator<Item = (Step, &'a Schema, &'a Value)>,
-    ) -> Option<Error> {
-        for (step, schema, value) in parts {
-            if let Some(refusal) = self.stops(schema, value) {
-                self.steps.push(step);
-                return Some(self.error(schema, value, refusal));
-            }
-        }
-        None
+    fn is_refused(&mut self, schema: &Schema, value: &Value, refusal: Refusal) -> bool {
+        (self.ask)(schema, value) == Some(refusal)
     }
 
-    fn in_items(&mut self, schema: &Schema, items: &[Value]) -> Option<Error> {
-        let items = items.iter().enumerate();
-        self.first(items.map(|(i, item)| (Step::Index(i), schema, item)))
+    fn child(
+        &mut self,
+        step: Step,
+        schema: &Schema,
+        value: &Value,
+        refusal: Refusal,
+    ) -> Option<Error> {
+        let refused = self.is_refused(schema, value, refusal);
+        refused.then(|| {
+            self.steps.push(step);
+            self.error(schema, value, refusal)
+        })
     }
 
     // Items meant as bytes: whether one can be is asked of an Array of it alone.
-    fn in_bytes(&mut self, items: &[Value]) -> Option<Error> {
-        for (i, item) in items.iter().enumerate() {
+    fn in_bytes(&mut self, items: &[Value], refusal: Refusal) -> Option<Error> {
+        let no_byte = items.iter().position(|item| {
             let alone = Value::Array(vec![item.clone()]);
-            if let Some(refusal) = self.stops(&Schema::Bytes, &alone) {
-                self.steps.push(Step::Index(i));
-                return Some(self.here(refusal, None));
-            }
-        }
-        None
+            self.is_refused(&Schema::Bytes, &alone, refusal)
+        })?;
+        self.steps.push(Step::Index(no_byte));
+        Some(self.here(refusal, None))
     }
 
     // The schema's fields in order, each with the last value under its name.
-    fn in_fields(&mut self, fields: &[RecordField], record: &Value) -> Option<Error> {
-        for field in fields {
+    fn in_fields(
+        &mut self,
+        fields: &[RecordField],
+        record: &Value,
+        refusal: Refusal,
+    ) -> Option<Error> {
+        fields.iter().find_map(|field| {
             let name = Step::Field(field.name.clone());
-            let found = match record.get(&field.name) {
-                Some(value) => self.first([(name, &field.schema, value)].into_iter()),
-                None => self.in_missing(field, name),
-            };
-            if found.is_some() {
-                return found;
+            match record.get(&field.name) {
+                Some(value) => self.child(name, &field.schema, value, refusal),
+                None => self.missing(name, field, refusal),
             }
-        }
-        None
+        })
     }
 
-    // A field that the record lacks: whether its default stops it is asked of a record without
+    // A field that the record lacks: whether its default is refused is asked of a record without
     // fields.
-    fn in_missing(&mut self, field: &RecordField, name: Step) -> Option<Error> {
+    fn missing(&mut self, name: Step, field: &RecordField, refusal: Refusal) -> Option<Error> {
         let alone = Schema::record(vec![field.clone()]);
-        let refusal = self.stops(&alone, &Value::Record(Vec::new()))?;
-        self.steps.push(name);
-        if field.default.is_some() {
-            self.steps.push(Step::Default);
-        }
-        Some(self.here(refusal, None))
+        let refused = self.is_refused(&alone, &Value::Record(Vec::new()), refusal);
+        refused.then(|| {
+            self.steps.push(name);
+            self.steps
+                .extend(field.default.is_some().then_some(Step::Default));
+            self.here(refusal, None)
+        })
     }
 
     // `value` is what is left of the value once the one Union is off. A variant that the kind table
     // gives is taken untried, and its refusal is the union's. Any other is tried, and only if all
     // refuse, the union does; where there is one besides Null, that one is the cause.
-    fn in_union(&mut self, union: &UnionSchema, value: &Value, refusal: Refusal) -> Error {
+    fn in_union(&mut self, union: &UnionSchema, value: &Value, refusal: Refusal) -> Option<Error> {
         if let Some(variant) = union.untried(value) {
-            if self.stops(variant, value) == Some(refusal) {
-                return self.error(variant, value, refusal);
-            }
+            return Some(self.error(variant, value, refusal));
         }
         let mut others = union.variants().iter().filter(|s| **s != Schema::Null);
-        let cause = match (others.next(), others.next(), peeled(value)) {
-            (_, _, Value::Null) => None,
-            (Some(only), None, _) => self.cause(only, value),
-            _ => None,
-        };
-        self.here(refusal, cause)
+        let only = others.next().filter(|_| others.next().is_none());
+        let cause = self.cause(only.filter(|_| *value != Value::Null)?, value)?;
+        Some(self.here(refusal, Some(cause)))
     }
 
     fn cause(&mut self, variant: &Schema, value: &Value) -> Option<Error> {
-        let refusal = self.stops(variant, value)?;
+        let refusal = (self.ask)(variant, value)?;
         let here = self.steps.len();
         let cause = self.error(variant, value, refusal);
         self.steps.truncate(here);

@@ -53,8 +53,11 @@ fn in_records_and_arrays() {
 #[test]
 fn the_first_field_of_the_schema_comes_first() {
     let schema = record([("b", Schema::Int), ("a", Schema::Int)]);
-    let sent = Value::record([("a", Value::Null), ("b", Value::Long(i64::MAX))]);
-    assert_eq!(refused(&schema, &sent), at("b", Refusal::LongOutsideInt));
+    let long = || Value::Long(i64::MAX);
+    let both = Value::record([("a", long()), ("b", long())]);
+    assert_eq!(refused(&schema, &both), at("b", Refusal::LongOutsideInt));
+    let either = Value::record([("a", Value::Null), ("b", long())]);
+    assert_eq!(refused(&schema, &either), at("b", Refusal::LongOutsideInt));
 }
 
 #[test]
@@ -219,6 +222,21 @@ fn an_array_in_a_union_is_tried() {
     let schema = nullable(Schema::array(Schema::Int));
     let error = error(&schema, &Value::array([Value::Int(1), Value::from("x")]));
     assert_eq!(place(&error), at("", Refusal::NoVariant));
+    assert_eq!(place(error.root_cause()), at("[1]", Refusal::Unsuited));
+}
+
+#[test]
+fn an_array_that_was_tried_is_the_cause_even_where_it_gives_the_same_answer() {
+    let schema = nullable(Schema::array(nullable(Schema::Int)));
+    let error = error(&schema, &Value::array([Value::Int(1), Value::from("x")]));
+    assert_eq!(place(&error), at("", Refusal::NoVariant));
+    let Error::Refused {
+        cause: Some(cause), ..
+    } = &error
+    else {
+        panic!("{error:?}");
+    };
+    assert_eq!(place(cause), at("[1]", Refusal::NoVariant));
     assert_eq!(place(error.root_cause()), at("[1]", Refusal::Unsuited));
 }
 
