@@ -38,14 +38,12 @@ impl<F: FnMut(&Schema, &Value) -> Option<Refusal>> Search<F> {
             (Schema::Record(record), Value::Record(_) | Value::Map(_)) => {
                 self.in_fields(&record.fields, peeled(value), refusal)
             }
-            (Schema::Array(array), Value::Array(items)) => {
-                let mut items = items.iter().enumerate();
-                items.find_map(|(i, item)| self.child(Step::Index(i), &array.items, item, refusal))
+            (Schema::Array(_) | Schema::Bytes, Value::Array(items)) => {
+                self.in_items(schema, items, refusal)
             }
             (Schema::Map(map), Value::Map(entries)) => entries.iter().find_map(|(key, entry)| {
                 self.child(Step::Key(key.clone()), &map.types, entry, refusal)
             }),
-            (Schema::Bytes, Value::Array(items)) => self.in_bytes(items, refusal),
             (Schema::Union(union), value) => self.in_union(union, value, refusal),
             _ => None,
         };
@@ -80,14 +78,23 @@ impl<F: FnMut(&Schema, &Value) -> Option<Refusal>> Search<F> {
         })
     }
 
-    // Items meant as bytes: whether one can be is asked of an Array of it alone.
-    fn in_bytes(&mut self, items: &[Value], refusal: Refusal) -> Option<Error> {
-        let no_byte = items.iter().position(|item| {
-            let alone = Value::Array(vec![item.clone()]);
-            self.is_refused(&Schema::Bytes, &alone, refusal)
-        })?;
-        self.steps.push(Step::Index(no_byte));
-        Some(self.here(refusal, None))
+    // The schema is of an Array, or of Bytes, which an Array may stand for. The first item that is
+    // refused is looked for by halves: to ask for each of thousands would take long.
+    fn in_items(&mut self, schema: &Schema, items: &[Value], refusal: Refusal) -> Option<Error> {
+        let (mut first, mut end) = (0, items.len());
+        while end - first > 1 {
+            let middle = first + (end - first) / 2;
+            let half = Value::Array(items[first..middle].to_vec());
+            match self.is_refused(schema, &half, refusal) {
+                true => end = middle,
+                false => first = middle,
+            }
+        }
+        self.steps.push(Step::Index(first));
+        match schema {
+            Schema::Array(array) => Some(self.error(&array.items, items.get(first)?, refusal)),
+            _ => Some(self.here(refusal, None)),
+        }
     }
 
     // The schema's fields in order, each with the last value under its name.

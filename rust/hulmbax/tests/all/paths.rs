@@ -171,6 +171,22 @@ fn each_kind_of_leaf() {
 }
 
 #[test]
+fn the_first_of_many_items() {
+    let schema = Schema::array(Schema::Int);
+    for n in [1, 2, 3, 7, 64, 100] {
+        for first in 0..n {
+            let mut items = vec![Value::Int(1); n];
+            items[first..].fill(Value::Null);
+            let path = format!("[{first}]");
+            assert_eq!(
+                refused(&schema, &Value::Array(items)),
+                at(&path, Refusal::Unsuited)
+            );
+        }
+    }
+}
+
+#[test]
 fn an_item_that_is_no_byte() {
     let union = |item| Value::Union(0, Box::new(item));
     let items = [
