@@ -53,7 +53,8 @@ impl Reader {
         &self.schema
     }
 
-    /// Brings the record to the schema, as apache-avro's `Value::resolve` does.
+    /// Brings the record to the schema, as apache-avro's `Value::resolve_with_names` does with no
+    /// names.
     ///
     /// # Errors
     ///
