@@ -26,16 +26,16 @@ static void print_answer(int32_t answer)
 
 static void resolve(const uint8_t *record, size_t record_len)
 {
-    static const uint8_t schema[] = {0x02};
+    static const uint8_t schema[] = {HULMBAX_KIND_INT};
     print_answer(hulmbax_resolve(schema, sizeof schema, record, record_len,
                                  result, sizeof result, workspace, sizeof workspace));
 }
 
 int main(void)
 {
-    static const uint8_t minus_one[] = {0x02, 0xff, 0xff, 0xff, 0xff};
-    static const uint8_t long_outside_int[] = {0x03, 0, 0, 0, 0, 0x80, 0, 0, 0};
-    static const uint8_t null[] = {0x00};
+    static const uint8_t minus_one[] = {HULMBAX_KIND_INT, 0xff, 0xff, 0xff, 0xff};
+    static const uint8_t long_outside_int[] = {HULMBAX_KIND_LONG, 0, 0, 0, 0, 0x80, 0, 0, 0};
+    static const uint8_t null[] = {HULMBAX_KIND_NULL};
 
     resolve(minus_one, sizeof minus_one);
     resolve(long_outside_int, sizeof long_outside_int);

@@ -1,11 +1,15 @@
 // Finds libhulmbax.a, or has `rt` prove and build it, and tells cargo to link it.
 use std::env;
-use std::fs;
-use std::io::ErrorKind;
+use std::fs::{self, OpenOptions};
+use std::io::{self, ErrorKind, Write};
 use std::path::{Path, PathBuf};
 use std::process::{exit, Command};
+use std::time::{Instant, SystemTime};
 
 const ARCHIVE: &str = "libhulmbax.a";
+
+/// What `rt staticlib hulmbax` reads, from the top of the repository.
+const SOURCES: [&str; 2] = ["crates.txt", "crates"];
 
 fn main() {
     println!("cargo:rerun-if-changed=build.rs");
@@ -47,32 +51,73 @@ fn prebuilt(path: &Path) -> PathBuf {
     archive
 }
 
-// Runs `rt staticlib hulmbax` in the repository. What it reads is watched, not what it writes.
+// The archive of the repository, which `rt` builds unless it is newer than every source.
 fn built(repository: &Path) -> PathBuf {
-    for source in ["crates.txt", "crates"] {
-        println!(
-            "cargo:rerun-if-changed={}",
-            repository.join(source).display()
-        );
+    let sources = SOURCES.map(|source| repository.join(source));
+    for source in &sources {
+        println!("cargo:rerun-if-changed={}", source.display());
     }
+    let archive = repository.join("target/staticlib").join(ARCHIVE);
+    let is_new = |made| sources.iter().all(|source| is_older(source, made));
+    if !modified(&archive).is_ok_and(is_new) {
+        prove(repository);
+    }
+    archive
+}
+
+fn modified(path: &Path) -> io::Result<SystemTime> {
+    fs::metadata(path)?.modified()
+}
+
+// Whether the file, or the folder with all that is in it, was changed before that time. A folder
+// changes when a file is removed from it.
+fn is_older(path: &Path, time: SystemTime) -> bool {
+    let older = |path: &Path| -> io::Result<bool> {
+        if modified(path)? >= time {
+            return Ok(false);
+        }
+        if !path.is_dir() {
+            return Ok(true);
+        }
+        let entries: Vec<_> = fs::read_dir(path)?.collect::<io::Result<_>>()?;
+        Ok(entries.iter().all(|entry| is_older(&entry.path(), time)))
+    };
+    older(path).unwrap_or(false)
+}
+
+// Runs `rt staticlib hulmbax` in the repository. What it prints goes where cargo keeps it: it is
+// shown by `cargo build -vv`, and after a failure.
+fn prove(repository: &Path) {
+    announce("`rt staticlib hulmbax` runs; the first time it proves every crate, for minutes");
+    let start = Instant::now();
     let run = Command::new("rt")
         .args(["staticlib", "hulmbax"])
         .current_dir(repository)
-        .output();
+        .stdout(io::stderr())
+        .status();
     match run {
         Err(e) if e.kind() == ErrorKind::NotFound => stop(&format!(
             "there is no program `rt` on the path to build {ARCHIVE} with. Install the Rattle \
              toolchain, or set HULMBAX_LIB to a built {ARCHIVE} or to the folder that holds it"
         )),
         Err(e) => stop(&format!("`rt` could not be started: {e}")),
-        Ok(out) if !out.status.success() => stop(&format!(
-            "`rt staticlib hulmbax` failed in {}: {}\n{}{}",
-            repository.display(),
-            out.status,
-            String::from_utf8_lossy(&out.stdout),
-            String::from_utf8_lossy(&out.stderr)
+        Ok(status) if !status.success() => stop(&format!(
+            "`rt staticlib hulmbax` failed in {}: {status}",
+            repository.display()
         )),
-        Ok(_) => repository.join("target/staticlib").join(ARCHIVE),
+        Ok(_) => println!(
+            "cargo:warning=`rt staticlib hulmbax` built {ARCHIVE} in {} s; the first time it \
+             proves every crate, for minutes. HULMBAX_LIB takes a built one",
+            start.elapsed().as_secs()
+        ),
+    }
+}
+
+// Cargo shows a warning only once this program has ended, so what is to be read while one waits
+// goes to the terminal, if there is one.
+fn announce(line: &str) {
+    if let Ok(mut terminal) = OpenOptions::new().write(true).open("/dev/tty") {
+        let _ = writeln!(terminal, "\rhulmbax: {line}");
     }
 }
 

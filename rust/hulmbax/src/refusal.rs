@@ -1,114 +1,143 @@
-// The eighteen refusals of document 01, with a sentence for each.
-use std::error::Error;
+// The refusals of document 01, each in one place.
 use std::fmt;
 
-/// Why a record was not brought to the schema.
-///
-/// The numbers are those of document 01, in its checking order. A refused call leaves the result
-/// buffer as it was.
-#[derive(Clone, Copy, Debug, PartialEq, Eq, PartialOrd, Ord, Hash)]
-#[repr(u8)]
-pub enum Refusal {
-    /// 1: the workspace is shorter than 65,536 bytes.
-    WorkspaceTooShort = 1,
-    /// 2: the schema is no frame.
-    SchemaNoFrame = 2,
-    /// 3: the schema's union tables, field names, sizes or defaults are unsound.
-    SchemaUnsound = 3,
-    /// 4: a default becomes longer than 4,096 bytes in its union's first variant.
-    DefaultTooLong = 4,
-    /// 5: the record is no frame, or its map keys don't rise.
-    RecordNoFrame = 5,
-    /// 6: the kind of a value, or its text, doesn't suit the schema.
-    Unsuited = 6,
-    /// 7: a Long is outside Int.
-    LongOutsideInt = 7,
-    /// 8: an item meant as a byte is outside 0 to 255.
-    ItemOutsideByte = 8,
-    /// 9: Bytes or a Fixed meant as a String are not UTF-8.
-    NotUtf8 = 9,
-    /// 10: the size of a Fixed, a Duration or a fixed UUID differs.
-    SizeDiffers = 10,
-    /// 11: UUID text, or the length of UUID bytes, is wrong.
-    UuidWrong = 11,
-    /// 12: a decimal's scale exceeds its precision.
-    ScaleExceedsPrecision = 12,
-    /// 13: a decimal's fixed size is too small for its precision.
-    FixedTooSmall = 13,
-    /// 14: the value's bytes are too few for the decimal's precision.
-    BytesTooFew = 14,
-    /// 15: a symbol is unknown and no default is among the symbols.
-    SymbolUnknown = 15,
-    /// 16: no variant of a union accepts the value.
-    NoVariant = 16,
-    /// 17: a field is missing and has no default.
-    FieldMissing = 17,
-    /// 18: the accepted result exceeds 65,535 bytes or the result buffer.
-    ResultTooLong = 18,
+/// What a refusal is of.
+#[derive(Clone, Copy, PartialEq, Eq)]
+enum Of {
+    /// The buffers of the call.
+    Call,
+    /// The schema by itself.
+    Schema,
+    /// The record's bytes, which are no frame.
+    Frame,
+    /// What the record holds, where it meets the schema.
+    Content,
+    /// The length of the result.
+    Room,
 }
 
-use Refusal::*;
+// The name and the number of each, what it is of, and a sentence for it.
+macro_rules! refusals {
+    ($($(#[$doc:meta])* $name:ident = $number:literal, $of:ident, $sentence:literal;)*) => {
+        /// The library's answer to a schema that it doesn't take, or to a record that it doesn't
+        /// bring to the schema.
+        ///
+        /// The numbers are those of document 01, the scope, and the library looks for them in their
+        /// order.
+        #[derive(Clone, Copy, Debug, PartialEq, Eq, PartialOrd, Ord, Hash)]
+        #[repr(u8)]
+        #[non_exhaustive]
+        pub enum Refusal {
+            $($(#[$doc])* $name = $number,)*
+        }
 
-/// In the order of their numbers.
-const ALL: [Refusal; 18] = [
-    WorkspaceTooShort,
-    SchemaNoFrame,
-    SchemaUnsound,
-    DefaultTooLong,
-    RecordNoFrame,
-    Unsuited,
-    LongOutsideInt,
-    ItemOutsideByte,
-    NotUtf8,
-    SizeDiffers,
-    UuidWrong,
-    ScaleExceedsPrecision,
-    FixedTooSmall,
-    BytesTooFew,
-    SymbolUnknown,
-    NoVariant,
-    FieldMissing,
-    ResultTooLong,
-];
+        const ALL: &[Refusal] = &[$(Refusal::$name),*];
+
+        impl Refusal {
+            /// A sentence for whoever sent the record or wrote the schema, without the number.
+            pub fn sentence(self) -> &'static str {
+                match self {
+                    $(Refusal::$name => $sentence,)*
+                }
+            }
+
+            fn of(self) -> Of {
+                match self {
+                    $(Refusal::$name => Of::$of,)*
+                }
+            }
+        }
+    };
+}
+
+refusals! {
+    /// 1: the workspace is shorter than 65,536 bytes.
+    WorkspaceTooShort = 1, Call, "the workspace is shorter than 65,536 bytes";
+
+    /// 2: the schema is no frame.
+    SchemaNoFrame = 2, Schema, "the reader schema is no frame: a byte, length or text in it is wrong, bytes are left over, or it is nested deeper than 16";
+
+    /// 3: the schema's union tables, field names, sizes or defaults are unsound.
+    SchemaUnsound = 3, Schema, "the reader schema is unsound: a union is empty, nested or has wrong tables, a field name repeats, a size is wrong, or a default is of a kind that JSON can't give";
+
+    /// 4: a default becomes longer than 4,096 bytes in its union's first variant.
+    DefaultTooLong = 4, Schema, "a default in the reader schema becomes longer than 4,096 bytes in the first variant of its union";
+
+    /// 5: the record is no frame, or its map keys don't rise.
+    RecordNoFrame = 5, Frame, "the record is no frame: a byte, length or text in it is wrong, bytes are left over, it is nested deeper than 16, or the keys of a map don't rise";
+
+    /// 6: the kind of a value, or its text, doesn't suit the schema.
+    Unsuited = 6, Content, "a value in the record is of a kind, or a text, that the schema can't take there";
+
+    /// 7: a Long is outside Int.
+    LongOutsideInt = 7, Content, "a Long in the record is too large or too small for the Int that the schema asks for";
+
+    /// 8: an item meant as a byte is outside 0 to 255.
+    ItemOutsideByte = 8, Content, "an array stands where the schema asks for bytes, and one of its items is outside 0 to 255";
+
+    /// 9: Bytes or a Fixed meant as a String are not UTF-8.
+    NotUtf8 = 9, Content, "bytes stand where the schema asks for a string, and they are not UTF-8";
+
+    /// 10: the size of a Fixed, a Duration or a fixed UUID differs.
+    SizeDiffers = 10, Content, "the bytes of a fixed, a duration or a fixed UUID are more or fewer than the schema asks for";
+
+    /// 11: UUID text, or the length of UUID bytes, is wrong.
+    UuidWrong = 11, Content, "a text or bytes stand where the schema asks for a UUID, and they are none";
+
+    /// 12: a decimal's scale exceeds its precision.
+    ScaleExceedsPrecision = 12, Content, "a decimal of the schema has a scale greater than its precision";
+
+    /// 13: a decimal's fixed size is too small for its precision.
+    FixedTooSmall = 13, Content, "a decimal of the schema has a fixed size too small for its precision";
+
+    /// 14: the value's bytes are too few for the decimal's precision.
+    BytesTooFew = 14, Content, "a decimal in the record has too few bytes for the precision that the schema asks for";
+
+    /// 15: a symbol is unknown and no default is among the symbols.
+    SymbolUnknown = 15, Content, "an enum in the record has a symbol that the schema doesn't have, and the schema has no default symbol";
+
+    /// 16: no variant of a union accepts the value.
+    NoVariant = 16, Content, "no variant of a union in the schema takes the value that the record has there";
+
+    /// 17: a field is missing and has no default.
+    FieldMissing = 17, Content, "the record lacks a field for which the schema has no default";
+
+    /// 18: the accepted result exceeds 65,535 bytes or the result buffer.
+    ResultTooLong = 18, Room, "the result doesn't fit: it is longer than the result buffer or than 65,535 bytes";
+}
 
 impl Refusal {
-    /// Document 01's number, 1 to 18.
+    /// The number, as program `resolve` and the C interface give it.
     pub fn number(self) -> u8 {
         self as u8
     }
 
-    /// The refusal of a number, if it is 1 to 18.
+    /// The refusal of a number, if there is one.
+    ///
+    /// ```
+    /// use hulmbax::Refusal;
+    ///
+    /// assert_eq!(Refusal::from_number(17), Some(Refusal::FieldMissing));
+    /// assert_eq!(Refusal::FieldMissing.number(), 17);
+    /// ```
     pub fn from_number(number: u8) -> Option<Refusal> {
-        ALL.into_iter().find(|r| r.number() == number)
+        ALL.iter().copied().find(|r| r.number() == number)
     }
 
-    /// All eighteen, in the order of their numbers.
-    pub fn all() -> [Refusal; 18] {
+    /// All of them, in the order of their numbers.
+    pub fn all() -> &'static [Refusal] {
         ALL
     }
 
-    /// What to tell whoever sent the record or wrote the schema.
-    fn sentence(self) -> &'static str {
-        match self {
-            WorkspaceTooShort => "the workspace is shorter than 65,536 bytes",
-            SchemaNoFrame => "the reader schema is no frame: a byte, length or text in it is wrong, bytes are left over, or it is nested deeper than 16",
-            SchemaUnsound => "the reader schema is unsound: a union is empty, nested or has wrong tables, a field name repeats, a size is wrong, or a default is of a kind that JSON can't give",
-            DefaultTooLong => "a default in the reader schema becomes longer than 4,096 bytes in the first variant of its union",
-            RecordNoFrame => "the record is no frame: a byte, length or text in it is wrong, bytes are left over, it is nested deeper than 16, or the keys of a map don't rise",
-            Unsuited => "a value in the record is of a kind, or a text, that the schema can't take there",
-            LongOutsideInt => "a Long in the record is too large or too small for the Int that the schema asks for",
-            ItemOutsideByte => "an array stands where the schema asks for bytes, and one of its items is outside 0 to 255",
-            NotUtf8 => "bytes stand where the schema asks for a string, and they are not UTF-8",
-            SizeDiffers => "the bytes of a fixed, a duration or a fixed UUID are more or fewer than the schema asks for",
-            UuidWrong => "a text or bytes stand where the schema asks for a UUID, and they are none",
-            ScaleExceedsPrecision => "a decimal of the schema has a scale greater than its precision",
-            FixedTooSmall => "a decimal of the schema has a fixed size too small for its precision",
-            BytesTooFew => "a decimal in the record has too few bytes for the precision that the schema asks for",
-            SymbolUnknown => "an enum in the record has a symbol that the schema doesn't have, and the schema has no default symbol",
-            NoVariant => "no variant of a union in the schema takes the value that the record has there",
-            FieldMissing => "the record lacks a field for which the schema has no default",
-            ResultTooLong => "the result doesn't fit: it is longer than the result buffer or than 65,535 bytes",
-        }
+    /// Whether it arose where a part of the record meets a part of the schema, so that it has a
+    /// place there.
+    pub(crate) fn is_of_content(self) -> bool {
+        self.of() == Of::Content
+    }
+
+    /// Whether it is of the schema, whatever the record is.
+    pub(crate) fn is_of_schema(self) -> bool {
+        self.of() == Of::Schema
     }
 }
 
@@ -118,7 +147,7 @@ impl fmt::Display for Refusal {
     }
 }
 
-impl Error for Refusal {}
+impl std::error::Error for Refusal {}
 
 #[cfg(test)]
 mod tests {
@@ -140,7 +169,7 @@ mod tests {
 
     #[test]
     fn no_two_sentences_are_equal() {
-        let mut sentences = Refusal::all().map(Refusal::sentence).to_vec();
+        let mut sentences: Vec<_> = Refusal::all().iter().map(|r| r.sentence()).collect();
         sentences.sort_unstable();
         sentences.dedup();
         assert_eq!(sentences.len(), 18);

@@ -1,6 +1,6 @@
 //! The sheet's reader schema, and what three clubs sent under schemas of their own.
 
-use hulmbax::frame::{FrameError, RecordField, Schema, Value};
+use hulmbax::{Error, RecordField, Schema, Value};
 
 /// A club, the schema that its release writes under, and its finishes.
 pub struct Club {
@@ -11,35 +11,27 @@ pub struct Club {
 }
 
 /// What the sheet reads: an elapsed time in seconds, or none, and a rating.
-pub fn reader_schema() -> Result<Schema, FrameError> {
+pub fn reader_schema() -> Result<Schema, Error> {
     let elapsed = Schema::nullable(Schema::Double)?;
     Ok(Schema::record(vec![
         RecordField::new("sail", Schema::String),
         RecordField::new("race", Schema::Int),
         RecordField::new("elapsed", elapsed).with_default(Value::Null),
-        RecordField::new("rating", Schema::Double).with_default(Value::Int(1000)),
+        RecordField::new("rating", Schema::Double).with_default(1000),
     ]))
 }
 
-pub fn clubs() -> Result<Vec<Club>, FrameError> {
+pub fn clubs() -> Result<Vec<Club>, Error> {
     Ok(vec![ardmore(), brightlee()?, corran()?])
 }
 
-fn text(text: &str) -> Value {
-    Value::String(text.to_string())
-}
-
-fn named<const N: usize>(items: [(&str, Value); N]) -> Vec<(String, Value)> {
-    items.map(|(name, v)| (name.to_string(), v)).to_vec()
-}
-
 fn ardmore() -> Club {
-    let finish = |sail, race, elapsed| {
-        Value::Record(named([
-            ("sail", text(sail)),
-            ("race", Value::Int(race)),
-            ("elapsed", Value::Int(elapsed)),
-        ]))
+    let finish = |sail: &str, race: i32, elapsed: i32| {
+        Value::record([
+            ("sail", sail.into()),
+            ("race", race.into()),
+            ("elapsed", elapsed.into()),
+        ])
     };
     Club {
         name: "Ardmore",
@@ -58,19 +50,15 @@ fn ardmore() -> Club {
     }
 }
 
-fn brightlee() -> Result<Club, FrameError> {
-    let finish = |sail, race, rating, elapsed: Option<f64>| {
-        let elapsed = match elapsed {
-            None => Value::Union(0, Box::new(Value::Null)),
-            Some(seconds) => Value::Union(1, Box::new(Value::Double(seconds))),
-        };
-        Value::Record(named([
-            ("race", Value::Long(race)),
-            ("sail", text(sail)),
-            ("wind", Value::Float(12.5)),
-            ("rating", Value::Float(rating)),
-            ("elapsed", elapsed),
-        ]))
+fn brightlee() -> Result<Club, Error> {
+    let finish = |sail: &str, race: i64, rating: f32, elapsed: Option<f64>| {
+        Value::record([
+            ("race", race.into()),
+            ("sail", sail.into()),
+            ("wind", 12.5_f32.into()),
+            ("rating", rating.into()),
+            ("elapsed", elapsed.into()),
+        ])
     };
     Ok(Club {
         name: "Brightlee",
@@ -92,20 +80,19 @@ fn brightlee() -> Result<Club, FrameError> {
     })
 }
 
-fn corran() -> Result<Club, FrameError> {
-    let number = |n| Value::Union(0, Box::new(Value::Int(n)));
-    let cell = |s| Value::Union(1, Box::new(text(s)));
-    let row = |cells: Vec<(String, Value)>| Value::Map(cells.into_iter().collect());
+fn corran() -> Result<Club, Error> {
+    let number = |n: i32| Value::Union(0, Box::new(n.into()));
+    let cell = |s: &str| Value::Union(1, Box::new(s.into()));
     let finish = |sail, race, elapsed| {
-        row(named([
+        Value::map([
             ("sail", cell(sail)),
             ("race", number(race)),
             ("rating", number(985)),
             ("elapsed", elapsed),
-        ]))
+        ])
     };
-    let unsailed = row(named([("sail", cell("C 8")), ("race", number(2))]));
-    let unnamed = row(named([("race", number(2)), ("elapsed", number(3590))]));
+    let unsailed = Value::map([("sail", cell("C 8")), ("race", number(2))]);
+    let unnamed = Value::map([("race", number(2)), ("elapsed", number(3590))]);
     Ok(Club {
         name: "Corran",
         habit: "Sends the rows of a table as they were typed, each cell a number or a text; an \

@@ -5,23 +5,29 @@
 //!     cargo run --example series -- write    # writes series.txt, series.out and series.md anew
 
 mod clubs;
+mod finish;
 mod sheet;
 mod twin;
-mod words;
 
-use hulmbax::{hex, resolve, Refusal, Workspace, RESULT_LEN};
-use std::error::Error;
+use hulmbax::{hex, Error, Reader, Schema, Value};
 use std::{env, fs};
 
 /// The folder of the shipped series.
 const FOLDER: &str = concat!(env!("CARGO_MANIFEST_DIR"), "/../../examples/");
 
-/// The frame of what the sheet gets, or what stopped the record.
-type Answer = Result<Vec<u8>, Refusal>;
+type Any<T> = Result<T, Box<dyn std::error::Error>>;
 
-fn main() -> Result<(), Box<dyn Error>> {
+/// A record of the input, and what the sheet gets from it.
+pub struct Line {
+    /// Its place in the input, from 1; the schema is line 1.
+    number: usize,
+    sent: Value,
+    answer: Result<Value, Error>,
+}
+
+fn main() -> Any<()> {
     match env::args().nth(1).as_deref() {
-        None => print!("{}", sheet::sheet(&answers(&read("series.txt")?)?)?),
+        None => print!("{}", sheet::sheet(&lines(&read("series.txt")?)?)?),
         Some("write") => {
             for (name, content) in twin::files()? {
                 fs::write(format!("{FOLDER}{name}"), content)?;
@@ -32,31 +38,30 @@ fn main() -> Result<(), Box<dyn Error>> {
     Ok(())
 }
 
-fn read(name: &str) -> Result<String, Box<dyn Error>> {
+fn read(name: &str) -> Any<String> {
     fs::read_to_string(format!("{FOLDER}{name}")).map_err(|e| format!("{FOLDER}{name}: {e}").into())
 }
 
 /// Resolves the lines of an input of program `resolve`: the schema, then records.
-fn answers(input: &str) -> Result<Vec<Answer>, Box<dyn Error>> {
-    let mut lines = input.lines();
-    let schema = frame(lines.next().unwrap_or_default())?;
-    let mut workspace = Workspace::new();
-    let mut answers = Vec::new();
-    for line in lines {
-        answers.push(answer(&schema, &frame(line)?, &mut workspace));
+fn lines(input: &str) -> Any<Vec<Line>> {
+    let mut frames = input.lines().map(frame);
+    let schema = frames.next().ok_or("the input has no schema")??;
+    let mut reader = Reader::new(&Schema::from_frame(&schema)?)?;
+    let mut lines = Vec::new();
+    for (number, record) in (2..).zip(frames) {
+        let sent = Value::from_frame(&record?)?;
+        let answer = reader.resolve(&sent);
+        lines.push(Line {
+            number,
+            sent,
+            answer,
+        });
     }
-    Ok(answers)
+    Ok(lines)
 }
 
-fn frame(line: &str) -> Result<Vec<u8>, Box<dyn Error>> {
+fn frame(line: &str) -> Any<Vec<u8>> {
     hex::decode(line).ok_or_else(|| format!("not hexadecimal: {line}").into())
-}
-
-fn answer(schema: &[u8], record: &[u8], workspace: &mut Workspace) -> Answer {
-    let mut result = vec![0; RESULT_LEN];
-    let n = resolve(schema, record, &mut result, workspace)?;
-    result.truncate(n);
-    Ok(result)
 }
 
 #[cfg(test)]
@@ -70,14 +75,15 @@ mod tests {
         }
     }
 
-    // A record that fits the schema that it was written under resolves to itself.
+    // A record that fits the schema that it was written under resolves to itself; by frames, since
+    // a NaN isn't equal to itself.
     #[test]
     fn each_record_is_of_its_club_s_schema() {
         for club in clubs::clubs().unwrap() {
-            let schema = club.schema.to_frame().unwrap();
+            let mut reader = Reader::new(&club.schema).unwrap();
             for record in club.records {
                 let sent = record.to_frame().unwrap();
-                assert_eq!(answer(&schema, &sent, &mut Workspace::new()), Ok(sent));
+                assert_eq!(reader.resolve_frame(&sent), Ok(&*sent));
             }
         }
     }

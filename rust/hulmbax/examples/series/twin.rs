@@ -1,9 +1,7 @@
 //! The files of the series: frames for program `resolve`, what it writes, and both in words.
 
-use crate::{answers, clubs, sheet, words, Answer};
-use hulmbax::frame::Value;
-use hulmbax::hex;
-use std::error::Error;
+use crate::{clubs, lines, sheet, Any, Line};
+use hulmbax::{hex, Refusal};
 
 const HEAD: &str = "# A series of three clubs, in words\n\n\
     What the frames of `series.txt` hold, by its lines, and what the sheet gets from each. \
@@ -11,11 +9,11 @@ const HEAD: &str = "# A series of three clubs, in words\n\n\
     `series.out`; its tests hold all three to it.\n";
 
 /// The name and the content of each file.
-pub fn files() -> Result<[(&'static str, String); 3], Box<dyn Error>> {
+pub fn files() -> Any<[(&'static str, String); 3]> {
     let input = input()?;
-    let answers = answers(&input)?;
-    let output: String = answers.iter().map(output_line).collect();
-    let twin = twin(&answers)?;
+    let lines = lines(&input)?;
+    let output = lines.iter().map(output_line).collect::<Any<String>>()?;
+    let twin = twin(&lines)?;
     Ok([
         ("series.txt", input),
         ("series.out", output),
@@ -24,7 +22,7 @@ pub fn files() -> Result<[(&'static str, String); 3], Box<dyn Error>> {
 }
 
 // The reader schema, then each club's records.
-fn input() -> Result<String, Box<dyn Error>> {
+fn input() -> Any<String> {
     let mut lines = vec![hex::encode(&clubs::reader_schema()?.to_frame()?)];
     for record in clubs::clubs()?.iter().flat_map(|club| &club.records) {
         lines.push(hex::encode(&record.to_frame()?));
@@ -32,32 +30,36 @@ fn input() -> Result<String, Box<dyn Error>> {
     Ok(lines.join("\n") + "\n")
 }
 
-fn output_line(answer: &Answer) -> String {
-    match answer {
-        Ok(frame) => format!("+ {}\n", hex::encode(frame)),
-        Err(refusal) => format!("- {}\n", refusal.number()),
-    }
+fn output_line(line: &Line) -> Any<String> {
+    Ok(match &line.answer {
+        Ok(value) => format!("+ {}\n", hex::encode(&value.to_frame()?)),
+        Err(error) => format!("- {}\n", error.refusal().map_or(0, Refusal::number)),
+    })
 }
 
-fn twin(answers: &[Answer]) -> Result<String, Box<dyn Error>> {
-    let reader = words::schema(&clubs::reader_schema()?);
+fn twin(lines: &[Line]) -> Any<String> {
+    let reader = clubs::reader_schema()?;
     let mut out = format!("{HEAD}\n## The reader schema (line 1)\n\n{reader}\n");
-    let mut numbered = (2..).zip(answers);
+    let mut lines_left = lines.iter();
     for club in clubs::clubs()? {
-        let schema = words::schema(&club.schema);
         out += &format!("\n## {}\n\n{}\n\n", club.name, club.habit);
-        out += &format!("Writer schema: {schema}\n\n");
+        out += &format!("Writer schema: {}\n\n", club.schema);
         out += "| Line | What was sent | What the sheet gets |\n|---|---|---|\n";
-        let rows = club.records.iter().zip(numbered.by_ref());
-        out += &rows.map(row).collect::<Result<String, _>>()?;
+        let rows = lines_left.by_ref().take(club.records.len());
+        out += &rows.map(row).collect::<String>();
     }
-    Ok(out + &format!("\n## The sheet\n\n```\n{}```\n", sheet::sheet(answers)?))
+    Ok(out + &format!("\n## The sheet\n\n```\n{}```\n", sheet::sheet(lines)?))
 }
 
-fn row((sent, (line, answer)): (&Value, (i32, &Answer))) -> Result<String, Box<dyn Error>> {
-    let gets = match answer {
-        Ok(frame) => words::value(&Value::from_frame(frame)?),
-        Err(refusal) => format!("nothing: {refusal}"),
-    };
-    Ok(format!("| {line} | {} | {gets} |\n", words::value(sent)))
+fn row(
+    Line {
+        number,
+        sent,
+        answer,
+    }: &Line,
+) -> String {
+    match answer {
+        Ok(value) => format!("| {number} | {sent} | {value} |\n"),
+        Err(error) => format!("| {number} | {sent} | pending: {error} |\n"),
+    }
 }

@@ -4,6 +4,7 @@ use std::fmt;
 
 /// Why a value or a schema has no frame, why bytes are no frame, or why variants make no union.
 #[derive(Clone, Copy, Debug, PartialEq, Eq)]
+#[non_exhaustive]
 pub enum FrameError {
     /// The frame would be longer than 65,535 bytes, or is.
     TooLong,
@@ -57,3 +58,30 @@ impl fmt::Display for FrameError {
 }
 
 impl Error for FrameError {}
+
+#[cfg(test)]
+mod tests {
+    use super::*;
+
+    #[test]
+    fn no_two_texts_are_equal() {
+        let errors = [
+            FrameError::TooLong,
+            FrameError::TooLarge,
+            FrameError::TooDeep,
+            FrameError::FixedSize,
+            FrameError::Short,
+            FrameError::Rest(2),
+            FrameError::Kind(0x1a),
+            FrameError::Flag(2),
+            FrameError::Utf8,
+            FrameError::Keys,
+            FrameError::NestedUnion,
+            FrameError::Duplicate(3),
+        ];
+        let mut texts = errors.map(|error| error.to_string()).to_vec();
+        texts.sort_unstable();
+        texts.dedup();
+        assert_eq!(texts.len(), errors.len());
+    }
+}

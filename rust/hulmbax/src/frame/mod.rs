@@ -1,24 +1,15 @@
-//! Values and schemas as plain Rust enums, to byte frames and back.
+//! Frames, the bytes that the library reads and writes, and its entries over them.
 //!
-//! [`Value`] and [`Schema`] have the variants and the fields of apache-avro's `types::Value` and
-//! `Schema`. README.md at the top of the repository says what the bytes of a frame are.
-//!
-#![doc = include_str!("apache_avro.md")]
+//! [`Reader`](crate::Reader) makes the frames itself; this module is for a program that has frames
+//! already, or that keeps buffers of its own. README.md at the top of the repository says what the
+//! bytes of a frame are.
 
-mod bytes;
+pub(crate) mod bytes;
 mod error;
 pub mod kind;
-mod schema;
-mod union;
-mod value;
 
+pub use crate::ffi::{resolve, RESULT_LEN, WORKSPACE_LEN};
 pub use error::FrameError;
-pub use schema::{
-    ArraySchema, DecimalSchema, EnumSchema, FixedSchema, InnerDecimalSchema, MapSchema,
-    RecordField, RecordSchema, Schema, UuidSchema,
-};
-pub use union::UnionSchema;
-pub use value::{Duration, Value};
 
 /// The longest frame.
 pub const MAX_FRAME: usize = 65_535;

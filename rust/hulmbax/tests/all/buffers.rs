@@ -1,7 +1,7 @@
-// What a call leaves in the result buffer and in the workspace, and the stack that it needs.
-use crate::common::{bytes, resolved};
-use hulmbax::frame::{RecordField, Schema, Value, MAX_DEPTH};
-use hulmbax::{resolve, resolve_in, Refusal, Workspace, WORKSPACE_LEN};
+// What a call over frames leaves in the result buffer and in the workspace.
+use crate::common::bytes;
+use hulmbax::frame::{resolve, WORKSPACE_LEN};
+use hulmbax::Refusal;
 
 const LONG: &str = "03";
 const INT: &str = "0200000e11";
@@ -9,7 +9,12 @@ const RESULT: &str = "030000000000000e11";
 
 // The Int under the schema of a Long, which gives RESULT.
 fn int_to_long(result: &mut [u8]) -> Result<usize, Refusal> {
-    resolve(&bytes(LONG), &bytes(INT), result, &mut Workspace::new())
+    resolve(
+        &bytes(LONG),
+        &bytes(INT),
+        result,
+        &mut vec![0; WORKSPACE_LEN],
+    )
 }
 
 #[test]
@@ -44,7 +49,12 @@ fn a_refused_record_leaves_the_buffer_as_it_was() {
     // an array of two Ints, the second of which is a text
     let record = bytes("080002020000000107000161");
     let mut result = [0xaa; 64];
-    let n = resolve(&bytes("0803"), &record, &mut result, &mut Workspace::new());
+    let n = resolve(
+        &bytes("0803"),
+        &record,
+        &mut result,
+        &mut vec![0; WORKSPACE_LEN],
+    );
     assert_eq!(n, Err(Refusal::Unsuited));
     assert_eq!(result, [0xaa; 64]);
 }
@@ -55,7 +65,7 @@ fn the_workspace_is_zero_after_each_call_and_the_bytes_after_it_are_kept() {
     for (schema, record) in calls {
         let mut workspace = vec![0xbb; WORKSPACE_LEN + 7];
         let mut result = [0; 64];
-        let _ = resolve_in(&bytes(schema), &bytes(record), &mut result, &mut workspace);
+        let _ = resolve(&bytes(schema), &bytes(record), &mut result, &mut workspace);
         let (used, after) = workspace.split_at(WORKSPACE_LEN);
         assert!(used.iter().all(|byte| *byte == 0), "{schema} with {record}");
         assert_eq!(after, [0xbb; 7]);
@@ -67,7 +77,7 @@ fn a_workspace_that_is_too_short_is_left_as_it_was() {
     for length in [0, 1, WORKSPACE_LEN - 1] {
         let mut workspace = vec![0xbb; length];
         let mut result = [0xaa; 64];
-        let answer = resolve_in(&bytes(LONG), &bytes(INT), &mut result, &mut workspace);
+        let answer = resolve(&bytes(LONG), &bytes(INT), &mut result, &mut workspace);
         assert_eq!(answer, Err(Refusal::WorkspaceTooShort));
         assert_eq!(workspace, vec![0xbb; length]);
         assert_eq!(result, [0xaa; 64]);
@@ -76,7 +86,7 @@ fn a_workspace_that_is_too_short_is_left_as_it_was() {
 
 #[test]
 fn a_workspace_serves_again_whatever_was_answered() {
-    let mut workspace = Workspace::new();
+    let mut workspace = vec![0; WORKSPACE_LEN];
     let mut result = [0; 64];
     for _ in 0..3 {
         let accepted = resolve(&bytes(LONG), &bytes(INT), &mut result, &mut workspace);
@@ -93,7 +103,7 @@ fn threads_call_at_the_same_time() {
         .map(|_| {
             std::thread::spawn(|| {
                 let mut result = [0; 64];
-                let mut workspace = Workspace::new();
+                let mut workspace = vec![0; WORKSPACE_LEN];
                 (0..100).all(|_| {
                     resolve(&bytes(LONG), &bytes(INT), &mut result, &mut workspace) == Ok(9)
                         && result[..9] == bytes(RESULT)
@@ -102,19 +112,4 @@ fn threads_call_at_the_same_time() {
         })
         .collect();
     assert!(calls.into_iter().all(|call| call.join().unwrap()));
-}
-
-// Records nested as deep as a frame can be take the most stack.
-#[test]
-fn a_thread_with_192_kilobytes_of_stack_is_enough() {
-    let record_of = |s| Schema::record(vec![RecordField::new("f", s)]);
-    let schema = (1..MAX_DEPTH).fold(Schema::Int, |s, _| record_of(s));
-    let value_of = |v| Value::Record(vec![("f".to_string(), v)]);
-    let value = (1..MAX_DEPTH).fold(Value::Int(1), |v, _| value_of(v));
-    let (schema, record) = (schema.to_frame().unwrap(), value.to_frame().unwrap());
-    let sent = record.clone();
-    let call = std::thread::Builder::new()
-        .stack_size(192 * 1024)
-        .spawn(move || resolved(&schema, &sent));
-    assert_eq!(call.unwrap().join().unwrap(), Ok(record));
 }

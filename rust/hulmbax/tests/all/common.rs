@@ -1,5 +1,7 @@
-// What several tests share: frames as hexadecimal, and one call on them.
-use hulmbax::{hex, resolve, Refusal, Workspace, RESULT_LEN};
+// What several tests share: frames as hexadecimal, one call on them, and short names for parts.
+use hulmbax::frame::{resolve, RESULT_LEN, WORKSPACE_LEN};
+use hulmbax::schema::{DecimalSchema, EnumSchema, FixedSchema, InnerDecimalSchema};
+use hulmbax::{hex, RecordField, Refusal, Schema};
 
 /// The bytes of a hexadecimal literal.
 pub fn bytes(digits: &str) -> Vec<u8> {
@@ -9,7 +11,7 @@ pub fn bytes(digits: &str) -> Vec<u8> {
 /// Resolves with a buffer into which every result fits.
 pub fn resolved(schema: &[u8], record: &[u8]) -> Result<Vec<u8>, Refusal> {
     let mut result = vec![0; RESULT_LEN];
-    let n = resolve(schema, record, &mut result, &mut Workspace::new())?;
+    let n = resolve(schema, record, &mut result, &mut vec![0; WORKSPACE_LEN])?;
     result.truncate(n);
     Ok(result)
 }
@@ -20,4 +22,32 @@ pub fn line(answer: Result<Vec<u8>, Refusal>) -> String {
         Ok(result) => format!("+ {}", hex::encode(&result)),
         Err(refusal) => format!("- {}", refusal.number()),
     }
+}
+
+pub fn fixed(size: usize) -> FixedSchema {
+    FixedSchema { size }
+}
+
+pub fn decimal(precision: usize, scale: usize, inner: InnerDecimalSchema) -> Schema {
+    Schema::Decimal(DecimalSchema {
+        precision,
+        scale,
+        inner,
+    })
+}
+
+pub fn symbols(symbols: &[&str], default: Option<&str>) -> Schema {
+    Schema::Enum(EnumSchema {
+        symbols: symbols.iter().map(|s| s.to_string()).collect(),
+        default: default.map(str::to_string),
+    })
+}
+
+pub fn nullable(schema: Schema) -> Schema {
+    Schema::nullable(schema).unwrap()
+}
+
+/// A Record of these fields, none of which has a default.
+pub fn record<const N: usize>(fields: [(&str, Schema); N]) -> Schema {
+    Schema::record(fields.map(|(name, s)| RecordField::new(name, s)).to_vec())
 }

@@ -1,7 +1,7 @@
 // The finishes to check by of document 01, and its example of program `resolve`.
-use crate::common::{bytes, line, resolved};
-use hulmbax::frame::{DecimalSchema, InnerDecimalSchema, Schema, Value};
-use hulmbax::Refusal;
+use crate::common::{bytes, decimal, line, nullable, resolved};
+use hulmbax::schema::InnerDecimalSchema;
+use hulmbax::{Refusal, Schema, Value};
 
 /// A schema, a record and the answer's line.
 const FINISHES: [(&str, &str, &str); 11] = [
@@ -34,24 +34,15 @@ fn the_starred_finishes() {
 
 #[test]
 fn the_same_finishes_from_rust_values() {
-    let nullable = Schema::nullable(Schema::Double).unwrap();
-    assert_eq!(nullable.to_frame().unwrap(), bytes(NULLABLE_DOUBLE));
-    assert_eq!(
-        answer(&Schema::Int, Value::Long(2_147_483_647)),
-        Ok(Value::Int(2_147_483_647))
-    );
-    assert_eq!(
-        answer(&Schema::Int, Value::Long(2_147_483_648)),
-        Err(Refusal::LongOutsideInt)
-    );
-    assert_eq!(
-        answer(&nullable, Value::Int(5)),
-        Ok(Value::Union(1, Box::new(Value::Double(5.0))))
-    );
-    assert_eq!(
-        answer(&nullable, Value::Null),
-        Ok(Value::Union(0, Box::new(Value::Null)))
-    );
+    let elapsed = nullable(Schema::Double);
+    assert_eq!(elapsed.to_frame(), Ok(bytes(NULLABLE_DOUBLE)));
+    let refused = |schema: &Schema, value: Value| value.resolve(schema).unwrap_err().refusal();
+    let most = Value::Long(2_147_483_647);
+    assert_eq!(most.resolve(&Schema::Int), Ok(Value::Int(2_147_483_647)));
+    let more = Value::Long(2_147_483_648);
+    assert_eq!(refused(&Schema::Int, more), Some(Refusal::LongOutsideInt));
+    assert_eq!(Value::Int(5).resolve(&elapsed), Ok(Some(5.0).into()));
+    assert_eq!(Value::Null.resolve(&elapsed), Ok(None::<f64>.into()));
 }
 
 #[test]
@@ -68,24 +59,15 @@ fn the_example_of_program_resolve() {
     assert_eq!(lines, ["+ 02ffffffff", "- 7", "- 6", "- 5"]);
 }
 
-fn answer(schema: &Schema, value: Value) -> Result<Value, Refusal> {
-    let frame = resolved(&schema.to_frame().unwrap(), &value.to_frame().unwrap())?;
-    Ok(Value::from_frame(&frame).unwrap())
-}
-
 // What stops a decimal of so many bytes that meets so great a precision.
 fn decimal_of(precision: usize, length: usize) -> Option<Refusal> {
-    let schema = Schema::Decimal(DecimalSchema {
-        precision,
-        scale: 0,
-        inner: InnerDecimalSchema::Bytes,
-    });
+    let schema = decimal(precision, 0, InnerDecimalSchema::Bytes);
     let sent = Value::Decimal(vec![1; length]);
-    match answer(&schema, sent.clone()) {
+    match sent.resolve(&schema) {
         Ok(got) => {
             assert_eq!(got, sent);
             None
         }
-        Err(refusal) => Some(refusal),
+        Err(error) => error.refusal(),
     }
 }

@@ -1,9 +1,12 @@
 // Values and schemas to frames and back: each kind, the limits, what is no frame, union tables.
-use crate::common::bytes;
-use hulmbax::frame::{
-    kind, DecimalSchema, Duration, EnumSchema, FixedSchema, FrameError, InnerDecimalSchema,
-    RecordField, Schema, UnionSchema, UuidSchema, Value, MAX_FRAME,
-};
+use crate::common::{bytes, decimal, fixed, nullable, symbols};
+use hulmbax::frame::{kind, FrameError, MAX_FRAME};
+use hulmbax::schema::{InnerDecimalSchema, UnionSchema, UuidSchema};
+use hulmbax::{Duration, Error, RecordField, Schema, Value};
+
+fn wrong<T>(error: FrameError) -> Result<T, Error> {
+    Err(Error::Frame(error))
+}
 
 fn text(text: &str) -> String {
     text.to_string()
@@ -47,25 +50,6 @@ fn values() -> Vec<(Value, &'static str)> {
     ]
 }
 
-fn decimal(inner: InnerDecimalSchema) -> Schema {
-    Schema::Decimal(DecimalSchema {
-        precision: 5,
-        scale: 2,
-        inner,
-    })
-}
-
-fn symbols(default: Option<&str>) -> Schema {
-    Schema::Enum(EnumSchema {
-        symbols: vec![text("a"), text("b")],
-        default: default.map(text),
-    })
-}
-
-fn fixed(size: usize) -> FixedSchema {
-    FixedSchema { size }
-}
-
 /// Schemas of each kind, in the order of the kinds, and their frames; a line each.
 #[rustfmt::skip]
 fn schemas() -> Vec<(Schema, &'static str)> {
@@ -82,14 +66,14 @@ fn schemas() -> Vec<(Schema, &'static str)> {
         (Schema::String, "07"),
         (Schema::array(Schema::Int), "0802"),
         (Schema::map(Schema::Int), "0902"),
-        (Schema::nullable(Schema::Double).unwrap(), "0a0002000500020000000500010000"),
+        (nullable(Schema::Double), "0a0002000500020000000500010000"),
         (Schema::record(vec![field]), "0b00010001610002"),
         (Schema::record(vec![defaulted]), "0b000100016101020000000502"),
-        (symbols(None), "0c000200016100016200"),
-        (symbols(Some("b")), "0c000200016100016201000162"),
+        (symbols(&["a", "b"], None), "0c000200016100016200"),
+        (symbols(&["a", "b"], Some("b")), "0c000200016100016201000162"),
         (Schema::Fixed(fixed(4)), "0d0004"),
-        (decimal(InnerDecimalSchema::Bytes), "0e000000050000000200"),
-        (decimal(InnerDecimalSchema::Fixed(fixed(3))), "0e0000000500000002010003"),
+        (decimal(5, 2, InnerDecimalSchema::Bytes), "0e000000050000000200"),
+        (decimal(5, 2, InnerDecimalSchema::Fixed(fixed(3))), "0e0000000500000002010003"),
         (Schema::Uuid(UuidSchema::Bytes), "0f00"),
         (Schema::Uuid(UuidSchema::String), "0f01"),
         (Schema::Uuid(UuidSchema::Fixed(fixed(16))), "0f020010"),
@@ -132,18 +116,18 @@ fn every_cut_frame_is_short_and_every_longer_one_has_a_rest() {
     for (_, digits) in values() {
         let frame = bytes(digits);
         for n in 0..frame.len() {
-            assert_eq!(Value::from_frame(&frame[..n]), Err(FrameError::Short));
+            assert_eq!(Value::from_frame(&frame[..n]), wrong(FrameError::Short));
         }
         let longer = [frame, vec![0]].concat();
-        assert_eq!(Value::from_frame(&longer), Err(FrameError::Rest(1)));
+        assert_eq!(Value::from_frame(&longer), wrong(FrameError::Rest(1)));
     }
     for (_, digits) in schemas() {
         let frame = bytes(digits);
         for n in 0..frame.len() {
-            assert_eq!(Schema::from_frame(&frame[..n]), Err(FrameError::Short));
+            assert_eq!(Schema::from_frame(&frame[..n]), wrong(FrameError::Short));
         }
         let longer = [frame, vec![0]].concat();
-        assert_eq!(Schema::from_frame(&longer), Err(FrameError::Rest(1)));
+        assert_eq!(Schema::from_frame(&longer), wrong(FrameError::Rest(1)));
     }
 }
 
@@ -162,32 +146,32 @@ fn a_nan_keeps_its_bits() {
 
 #[test]
 fn what_is_no_frame_of_a_value() {
-    let wrong = [
+    let broken = [
         ("1a", FrameError::Kind(0x1a)),
         ("0102", FrameError::Flag(2)),
         ("070001ff", FrameError::Utf8),
         ("0900020001620000016100", FrameError::Keys),
         ("0900020001610000016100", FrameError::Keys),
     ];
-    for (digits, error) in wrong {
-        assert_eq!(Value::from_frame(&bytes(digits)), Err(error), "{digits}");
+    for (digits, error) in broken {
+        assert_eq!(Value::from_frame(&bytes(digits)), wrong(error), "{digits}");
     }
     assert_eq!(
         Value::from_frame(&[0; MAX_FRAME + 1]),
-        Err(FrameError::TooLong)
+        wrong(FrameError::TooLong)
     );
 }
 
 #[test]
 fn what_is_no_frame_of_a_schema() {
-    let wrong = [
+    let broken = [
         ("1a", FrameError::Kind(0x1a)),
         ("0f03", FrameError::Flag(3)),
         ("0b00010001610202", FrameError::Flag(2)),
         ("0c00010001ff00", FrameError::Utf8),
     ];
-    for (digits, error) in wrong {
-        assert_eq!(Schema::from_frame(&bytes(digits)), Err(error), "{digits}");
+    for (digits, error) in broken {
+        assert_eq!(Schema::from_frame(&bytes(digits)), wrong(error), "{digits}");
     }
 }
 
@@ -205,15 +189,15 @@ fn deep_schema(depth: usize) -> Schema {
 fn sixteen_is_the_deepest() {
     let value = deep_value(16).to_frame().unwrap();
     assert_eq!(Value::from_frame(&value), Ok(deep_value(16)));
-    assert_eq!(deep_value(17).to_frame(), Err(FrameError::TooDeep));
+    assert_eq!(deep_value(17).to_frame(), wrong(FrameError::TooDeep));
     let deeper = [bytes("080001"), value].concat();
-    assert_eq!(Value::from_frame(&deeper), Err(FrameError::TooDeep));
+    assert_eq!(Value::from_frame(&deeper), wrong(FrameError::TooDeep));
 
     let schema = deep_schema(16).to_frame().unwrap();
     assert_eq!(Schema::from_frame(&schema), Ok(deep_schema(16)));
-    assert_eq!(deep_schema(17).to_frame(), Err(FrameError::TooDeep));
+    assert_eq!(deep_schema(17).to_frame(), wrong(FrameError::TooDeep));
     let deeper = [bytes("08"), schema].concat();
-    assert_eq!(Schema::from_frame(&deeper), Err(FrameError::TooDeep));
+    assert_eq!(Schema::from_frame(&deeper), wrong(FrameError::TooDeep));
 }
 
 #[test]
@@ -222,7 +206,7 @@ fn a_default_starts_at_depth_one_again() {
     let schema = Schema::record(vec![field(16)]);
     assert_eq!(Schema::from_frame(&schema.to_frame().unwrap()), Ok(schema));
     let deeper = Schema::record(vec![field(17)]);
-    assert_eq!(deeper.to_frame(), Err(FrameError::TooDeep));
+    assert_eq!(deeper.to_frame(), wrong(FrameError::TooDeep));
 }
 
 #[test]
@@ -230,13 +214,13 @@ fn what_has_no_room_in_a_frame() {
     let longest = Value::Bytes(vec![0; MAX_FRAME - 3]);
     assert_eq!(longest.to_frame().map(|f| f.len()), Ok(MAX_FRAME));
     let longer = Value::Bytes(vec![0; MAX_FRAME - 2]);
-    assert_eq!(longer.to_frame(), Err(FrameError::TooLong));
+    assert_eq!(longer.to_frame(), wrong(FrameError::TooLong));
     let no_length = Value::Bytes(vec![0; MAX_FRAME + 1]);
-    assert_eq!(no_length.to_frame(), Err(FrameError::TooLarge));
+    assert_eq!(no_length.to_frame(), wrong(FrameError::TooLarge));
     let no_size = Schema::Fixed(fixed(MAX_FRAME + 1));
-    assert_eq!(no_size.to_frame(), Err(FrameError::TooLarge));
+    assert_eq!(no_size.to_frame(), wrong(FrameError::TooLarge));
     let other_size = Value::Fixed(3, vec![0; 2]);
-    assert_eq!(other_size.to_frame(), Err(FrameError::FixedSize));
+    assert_eq!(other_size.to_frame(), wrong(FrameError::FixedSize));
 }
 
 #[test]
@@ -247,10 +231,10 @@ fn the_tables_of_a_union() {
         Schema::Uuid(UuidSchema::Fixed(fixed(16))),
         Schema::record(vec![]),
         Schema::Uuid(UuidSchema::String),
-        decimal(InnerDecimalSchema::Fixed(fixed(3))),
+        decimal(5, 2, InnerDecimalSchema::Fixed(fixed(3))),
         Schema::Date,
-        symbols(None),
-        decimal(InnerDecimalSchema::Bytes),
+        symbols(&["a", "b"], None),
+        decimal(5, 2, InnerDecimalSchema::Bytes),
         Schema::Null,
         Schema::Fixed(fixed(4)),
         Schema::array(Schema::Int),
@@ -272,10 +256,10 @@ fn the_tables_of_a_union() {
 #[test]
 fn what_makes_no_union() {
     let union = |variants| UnionSchema::new(variants).map(|_| ());
-    let nested = Schema::nullable(Schema::Int).unwrap();
-    assert_eq!(union(vec![nested]), Err(FrameError::NestedUnion));
+    let nested = nullable(Schema::Int);
+    assert_eq!(union(vec![nested]), wrong(FrameError::NestedUnion));
     let same = vec![Schema::Long, Schema::Null, Schema::TimeMicros];
-    assert_eq!(union(same), Err(FrameError::Duplicate(kind::LONG)));
+    assert_eq!(union(same), wrong(FrameError::Duplicate(kind::LONG)));
     let named = vec![Schema::Fixed(fixed(4)), Schema::Duration(fixed(12))];
     assert_eq!(union(named), Ok(()));
 }

@@ -1,34 +1,20 @@
 // A schema and a record for each refusal of document 01.
-use crate::common::resolved;
-use hulmbax::frame::{
-    DecimalSchema, EnumSchema, FixedSchema, InnerDecimalSchema, RecordField, Schema, UnionSchema,
-    UuidSchema, Value,
-};
-use hulmbax::{resolve_in, Refusal, RESULT_LEN, WORKSPACE_LEN};
+use crate::common::{decimal, fixed, nullable, record, resolved, symbols};
+use hulmbax::frame::{resolve, RESULT_LEN, WORKSPACE_LEN};
+use hulmbax::schema::{InnerDecimalSchema, UnionSchema, UuidSchema};
+use hulmbax::{RecordField, Refusal, Schema, Value};
 
-fn refused(schema: &Schema, value: &Value) -> Refusal {
-    let schema = schema.to_frame().unwrap();
-    let record = value.to_frame().unwrap();
-    resolved(&schema, &record).expect_err("this is to be refused")
-}
-
-fn text(text: &str) -> Value {
-    Value::String(text.to_string())
-}
-
-fn decimal(precision: usize, scale: usize, inner: InnerDecimalSchema) -> Schema {
-    Schema::Decimal(DecimalSchema {
-        precision,
-        scale,
-        inner,
-    })
+// What stops the record.
+fn refused(schema: &Schema, value: impl Into<Value>) -> Refusal {
+    let error = value.into().resolve(schema);
+    error.expect_err("this is to be refused").refusal().unwrap()
 }
 
 #[test]
 fn refusal_1_workspace_too_short() {
     let mut result = [0; 5];
     let mut workspace = vec![0; WORKSPACE_LEN - 1];
-    let answer = resolve_in(&[2], &[2, 0, 0, 0, 1], &mut result, &mut workspace);
+    let answer = resolve(&[2], &[2, 0, 0, 0, 1], &mut result, &mut workspace);
     assert_eq!(answer, Err(Refusal::WorkspaceTooShort));
 }
 
@@ -42,34 +28,31 @@ fn refusal_2_schema_no_frame() {
 
 #[test]
 fn refusal_3_schema_unsound() {
-    let twice = vec![
-        RecordField::new("sail", Schema::Int),
-        RecordField::new("sail", Schema::Int),
-    ];
-    let float_default = RecordField::new("elapsed", Schema::Float).with_default(Value::Float(1.0));
+    let twice = record([("sail", Schema::Int), ("sail", Schema::Int)]);
+    let float_default = RecordField::new("elapsed", Schema::Float).with_default(1.0_f32);
     let past = UnionSchema::with_tables(vec![Schema::Null], vec![(0, 1)], vec![]);
     let unsound = [
-        Schema::record(twice),
+        twice,
         Schema::record(vec![float_default]),
         Schema::Union(past),
         Schema::union(vec![]).unwrap(),
-        Schema::Duration(FixedSchema { size: 11 }),
-        Schema::Uuid(UuidSchema::Fixed(FixedSchema { size: 15 })),
+        Schema::Duration(fixed(11)),
+        Schema::Uuid(UuidSchema::Fixed(fixed(15))),
     ];
     for schema in unsound {
-        assert_eq!(refused(&schema, &Value::Null), Refusal::SchemaUnsound);
+        assert_eq!(refused(&schema, Value::Null), Refusal::SchemaUnsound);
     }
 }
 
 #[test]
 fn refusal_4_default_too_long() {
     let notes = Schema::union(vec![Schema::String, Schema::Null]).unwrap();
-    let field = |n| RecordField::new("notes", notes.clone()).with_default(text(&"x".repeat(n)));
+    let field = |n| RecordField::new("notes", notes.clone()).with_default("x".repeat(n));
     let none = Value::Record(vec![]);
     let long = Schema::record(vec![field(4_094)]);
-    assert_eq!(refused(&long, &none), Refusal::DefaultTooLong);
+    assert_eq!(refused(&long, none.clone()), Refusal::DefaultTooLong);
     let fits = Schema::record(vec![field(4_093)]);
-    assert!(resolved(&fits.to_frame().unwrap(), &none.to_frame().unwrap()).is_ok());
+    assert!(none.resolve(&fits).is_ok());
 }
 
 #[test]
@@ -82,100 +65,90 @@ fn refusal_5_record_no_frame() {
 
 #[test]
 fn refusal_6_unsuited() {
-    assert_eq!(refused(&Schema::Int, &text("5")), Refusal::Unsuited);
-    assert_eq!(refused(&Schema::Double, &text("nan")), Refusal::Unsuited);
+    assert_eq!(refused(&Schema::Int, "5"), Refusal::Unsuited);
+    assert_eq!(refused(&Schema::Double, "nan"), Refusal::Unsuited);
 }
 
 #[test]
 fn refusal_7_long_outside_int() {
     let long = Value::Long(-2_147_483_649);
-    assert_eq!(refused(&Schema::Int, &long), Refusal::LongOutsideInt);
+    assert_eq!(refused(&Schema::Int, long), Refusal::LongOutsideInt);
 }
 
 #[test]
 fn refusal_8_item_outside_byte() {
     let items = Value::Array(vec![Value::Int(255), Value::Int(256)]);
-    assert_eq!(refused(&Schema::Bytes, &items), Refusal::ItemOutsideByte);
+    assert_eq!(refused(&Schema::Bytes, items), Refusal::ItemOutsideByte);
 }
 
 #[test]
 fn refusal_9_not_utf8() {
     let sent = Value::Bytes(vec![0xc0, 0x80]);
-    assert_eq!(refused(&Schema::String, &sent), Refusal::NotUtf8);
+    assert_eq!(refused(&Schema::String, sent), Refusal::NotUtf8);
 }
 
 #[test]
 fn refusal_10_size_differs() {
-    let fixed = Schema::Fixed(FixedSchema { size: 4 });
+    let fixed = Schema::Fixed(fixed(4));
     let sent = Value::Fixed(2, vec![1, 2]);
-    assert_eq!(refused(&fixed, &sent), Refusal::SizeDiffers);
+    assert_eq!(refused(&fixed, sent), Refusal::SizeDiffers);
 }
 
 #[test]
 fn refusal_11_uuid_wrong() {
     let uuid = Schema::Uuid(UuidSchema::String);
-    assert_eq!(refused(&uuid, &text("K 17")), Refusal::UuidWrong);
+    assert_eq!(refused(&uuid, "K 17"), Refusal::UuidWrong);
 }
 
 #[test]
 fn refusal_12_scale_exceeds_precision() {
     let schema = decimal(4, 5, InnerDecimalSchema::Bytes);
     assert_eq!(
-        refused(&schema, &Value::Null),
+        refused(&schema, Value::Null),
         Refusal::ScaleExceedsPrecision
     );
 }
 
 #[test]
 fn refusal_13_fixed_too_small() {
-    let schema = decimal(3, 0, InnerDecimalSchema::Fixed(FixedSchema { size: 1 }));
-    assert_eq!(refused(&schema, &Value::Null), Refusal::FixedTooSmall);
+    let schema = decimal(3, 0, InnerDecimalSchema::Fixed(fixed(1)));
+    assert_eq!(refused(&schema, Value::Null), Refusal::FixedTooSmall);
 }
 
 #[test]
 fn refusal_14_bytes_too_few() {
     let schema = decimal(3, 0, InnerDecimalSchema::Bytes);
     let sent = Value::Decimal(vec![1]);
-    assert_eq!(refused(&schema, &sent), Refusal::BytesTooFew);
+    assert_eq!(refused(&schema, sent), Refusal::BytesTooFew);
 }
 
 #[test]
 fn refusal_15_symbol_unknown() {
-    let status = |default: Option<&str>| {
-        Schema::Enum(EnumSchema {
-            symbols: vec!["finished".to_string(), "retired".to_string()],
-            default: default.map(str::to_string),
-        })
-    };
     let sent = Value::Enum(0, "sunk".to_string());
-    assert_eq!(refused(&status(None), &sent), Refusal::SymbolUnknown);
-    assert_eq!(
-        refused(&status(Some("lost")), &sent),
-        Refusal::SymbolUnknown
-    );
+    for default in [None, Some("lost")] {
+        let status = symbols(&["finished", "retired"], default);
+        assert_eq!(refused(&status, sent.clone()), Refusal::SymbolUnknown);
+    }
 }
 
 #[test]
 fn refusal_16_no_variant() {
-    let elapsed = Schema::nullable(Schema::Double).unwrap();
-    assert_eq!(refused(&elapsed, &text("none")), Refusal::NoVariant);
+    let elapsed = nullable(Schema::Double);
+    assert_eq!(refused(&elapsed, "none"), Refusal::NoVariant);
 }
 
 #[test]
 fn refusal_17_field_missing() {
-    let schema = Schema::record(vec![RecordField::new("sail", Schema::String)]);
-    let none = Value::Record(vec![("Sail".to_string(), text("K 17"))]);
-    assert_eq!(refused(&schema, &none), Refusal::FieldMissing);
+    let schema = record([("sail", Schema::String)]);
+    let none = Value::record([("Sail", Value::from("K 17"))]);
+    assert_eq!(refused(&schema, none), Refusal::FieldMissing);
 }
 
 #[test]
 fn refusal_18_result_too_long() {
     // an item has 5 bytes as an Int and 9 as a Long
     let items = Value::Array(vec![Value::Int(1); 13_000]);
-    let fits = items.to_frame().unwrap();
-    assert!(fits.len() <= RESULT_LEN);
-    assert_eq!(
-        refused(&Schema::array(Schema::Long), &items),
-        Refusal::ResultTooLong
-    );
+    assert!(items.to_frame().unwrap().len() <= RESULT_LEN);
+    let longs = Schema::array(Schema::Long);
+    assert_eq!(refused(&longs, items), Refusal::ResultTooLong);
 }

@@ -1,7 +1,7 @@
 // The recorded answers of apache-avro, from Rust: each frame is read and written again, and each
 // record is resolved.
 use crate::common::{bytes, line, resolved};
-use hulmbax::frame::{Schema, Value};
+use hulmbax::{Reader, Schema, Value};
 
 const RECORDED: &str = concat!(env!("CARGO_MANIFEST_DIR"), "/../../crates/vectors/stdin");
 
@@ -41,6 +41,24 @@ fn every_record_gets_its_recorded_answer() {
         let answer = line(resolved(&v.schema, &v.record));
         assert_eq!(answer, v.answer, "{:02x?} with {:02x?}", v.schema, v.record);
     }
+}
+
+// A reader refuses a schema as the library does, and then gives the library's answer to each record
+// of it, whatever way it takes to find the place of a refusal.
+#[test]
+fn every_record_gets_its_recorded_answer_from_a_reader() {
+    let mut with_path = 0;
+    for v in vectors() {
+        let Ok(schema) = Schema::from_frame(&v.schema) else {
+            continue;
+        };
+        let reader = Reader::new(&schema);
+        let answer = reader.and_then(|mut r| r.resolve_frame(&v.record).map(<[u8]>::to_vec));
+        with_path += usize::from(matches!(&answer, Err(e) if !e.path().is_root()));
+        let answer = line(answer.map_err(|error| error.refusal().unwrap()));
+        assert_eq!(answer, v.answer, "{schema} with {:02x?}", v.record);
+    }
+    assert!(with_path > 100, "{with_path}");
 }
 
 // 2 says that the schema is no frame. Of those refused with 3, a schema with a default whose keys

@@ -1,6 +1,8 @@
 // The schema of a union, with the two tables that apache-avro's UnionSchema::new makes.
-use super::bytes::{Reader, Writer};
-use super::{kind, FrameError, Schema};
+use super::Schema;
+use crate::frame::bytes::{Input, Output};
+use crate::frame::{kind, FrameError};
+use crate::{Error, Value};
 
 /// The schema of a Union: its variants, and the two tables by which a variant is found.
 #[derive(Clone, Debug, PartialEq)]
@@ -20,22 +22,22 @@ impl UnionSchema {
     ///
     /// # Errors
     ///
-    /// [`FrameError::NestedUnion`]; [`FrameError::Duplicate`] for two variants under one kind;
-    /// [`FrameError::TooLarge`] for more than 65,536 variants.
-    pub fn new(schemas: Vec<Schema>) -> Result<UnionSchema, FrameError> {
+    /// [`Error::Frame`] with [`FrameError::NestedUnion`], with [`FrameError::Duplicate`] for two
+    /// variants under one kind, or with [`FrameError::TooLarge`] for more than 65,536 variants.
+    pub fn new(schemas: Vec<Schema>) -> Result<UnionSchema, Error> {
         let mut variant_index = Vec::new();
         let mut named_index = Vec::new();
         for (position, schema) in schemas.iter().enumerate() {
             let position = u16::try_from(position).map_err(|_| FrameError::TooLarge)?;
             match schema.base_kind() {
-                kind::UNION => return Err(FrameError::NestedUnion),
+                kind::UNION => return Err(FrameError::NestedUnion.into()),
                 kind::RECORD | kind::ENUM | kind::FIXED => named_index.push(position),
                 base => variant_index.push((base, position)),
             }
         }
         variant_index.sort_unstable();
         match variant_index.windows(2).find(|pair| pair[0].0 == pair[1].0) {
-            Some(pair) => Err(FrameError::Duplicate(pair[0].0)),
+            Some(pair) => Err(FrameError::Duplicate(pair[0].0).into()),
             None => Ok(UnionSchema::with_tables(
                 schemas,
                 variant_index,
@@ -45,8 +47,8 @@ impl UnionSchema {
     }
 
     /// A union with tables of the caller's own: positions under kind bytes, the kinds rising, and
-    /// positions of the variants that have a name. Tables that point past the variants are refused
-    /// with 3 when a record is resolved.
+    /// positions of the variants that have a name. [`Schema::check`] refuses tables that point
+    /// past the variants.
     pub fn with_tables(
         schemas: Vec<Schema>,
         variant_index: Vec<(u8, u16)>,
@@ -74,7 +76,16 @@ impl UnionSchema {
         &self.named_index
     }
 
-    pub(super) fn write(&self, out: &mut Writer, depth: usize) -> Result<(), FrameError> {
+    /// The variant that this value gets from the table of kinds without being tried, if there is
+    /// one: an Array or a Map is tried. The value isn't the Union itself but what it holds.
+    pub(crate) fn untried(&self, value: &Value) -> Option<&Schema> {
+        let kind = value.unnamed_kind()?;
+        let (_, position) = self.variant_index.iter().find(|(k, _)| *k == kind)?;
+        let variant = self.schemas.get(usize::from(*position))?;
+        (!matches!(variant, Schema::Array(_) | Schema::Map(_))).then_some(variant)
+    }
+
+    pub(crate) fn write(&self, out: &mut Output, depth: usize) -> Result<(), FrameError> {
         out.count(self.schemas.len())?;
         self.schemas.iter().try_for_each(|s| s.write(out, depth))?;
         out.count(self.variant_index.len())?;
@@ -89,7 +100,7 @@ impl UnionSchema {
         Ok(())
     }
 
-    pub(super) fn read(from: &mut Reader<'_>, depth: usize) -> Result<UnionSchema, FrameError> {
+    pub(crate) fn read(from: &mut Input<'_>, depth: usize) -> Result<UnionSchema, FrameError> {
         Ok(UnionSchema {
             schemas: from.list(|r| Schema::read(r, depth))?,
             variant_index: from.list(|r| Ok((r.byte()?, r.count()?)))?,
