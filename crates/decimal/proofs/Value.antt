@@ -1,19 +1,20 @@
--- A decimal's value and length together are its bytes: no other bytes of that length hold the value, and each integer in the range of a length is
--- held. So a precision is admitted where every integer of that many digits is held. Assumes nothing.
+-- A decimal's value, by the sign that the first bit is; value and length together are the bytes: no other bytes of that length hold the value, and each
+-- integer in the range of a length is held. So a precision is admitted exactly where every integer of that many digits is held. Assumes nothing.
 use Prim.Native.Nat.{ℕ, zero, suc, _+_, _-_, _*_, _^_, _≤_, _<_}
 use mathlib.Core.Path.{_≡_, refl, ap, sym, _∙_, subst}
 use mathlib.Core.List.{List, [], _∷_}
 use mathlib.Core.Bool.{Bool, true, false, cond}
 use borrow.Author.Tests.{ltb-true, ltb-false, lt-ltb, le-ltb}
-use native.Mathlib.Nat.{pow-suc, mul-comm, pow-le-pow-left}
+use native.Mathlib.Nat.{pow-suc, mul-comm, mul-le-mul-right, pow-le-pow-left}
 use native.Mathlib.Decide.{decLe}
 use native.Mathlib.Omega.{arith}
 use lib.Dec.{T, ltb}
-use lib.IntN.{ℤ, pos, negsuc, natAbs}
+use lib.IntN.{ℤ, pos, negsuc, natAbs, _+ℤ_}
+use lib.Arith.{digits-lt}
 use lib.ListN.{length}
 use lib.Pow.{pow-add, pow-pos, pow-mono}
 use Rattle.number.specs.Number.{allBytes, bigEndian, bytesOf}
-use Rattle.number.proofs.Laws.{length-bytesOf, allBytes-bytesOf, bigEndian-<, bytesOf-bigEndian, bigEndian-bytesOf-small}
+use Rattle.number.proofs.Laws.{length-bytesOf, allBytes-tail, allBytes-bytesOf, bigEndian-<, bytesOf-bigEndian, bigEndian-bytesOf-small}
 use Rattle.rounding.specs.Rounding.{ofTwos, toTwos}
 use Rattle.decimal.specs.Decimal.{above, tooShortFor}
 use Rattle.decimal.specs.Value.{valueOf, heldIn, InRange}
@@ -68,6 +69,36 @@ module _ (n : ℕ) (h : 1 ≤ n) where
 -- ---- bytes
 bits-< : (s : List ℕ) → T (allBytes s) → bigEndian s < 2 ^ (8 * length s)
 bits-< s h = rw (256^-bits (length s)) at (bigEndian-< s h)
+
+-- the first bit is the sign
+half-bits : (k : ℕ) → 128 * 256 ^ k ≡ 2 ^ (8 * suc k - 1)
+half-bits k =
+    let e : 8 * suc k - 1 ≡ 7 + 8 * k = omega arith in
+    rw (e, pow-add, 256^-bits k) refl
+
+-- below 80 the bytes hold the number that they are
+pub valueOf-positive : (x : ℕ) (s : List ℕ) → T (allBytes (x ∷ s)) → x < 0x80 → valueOf (x ∷ s) ≡ pos (bigEndian (x ∷ s))
+unfolding valueOf bigEndian
+valueOf-positive x s h l =
+    let b = x * 256 ^ length s + bigEndian s in
+    let k : b < 2 ^ (8 * suc (length s) - 1) = rw (← half-bits (length s)) (digits-lt l (bigEndian-< s (allBytes-tail x s h))) in
+    ap (λ (t : Bool). cond t (pos b) (negsuc (2 ^ (8 * suc (length s)) - suc b))) (lt-ltb b (2 ^ (8 * suc (length s) - 1)) k)
+
+-- from 80 on they are 256^length more than what they hold
+more : (m b : ℕ) → b < m → negsuc (m - suc b) +ℤ pos m ≡ pos b
+more m b h =
+    let q = suc (m - suc b) in
+    let e : m - q ≡ b = omega arith in
+    ap (λ (t : Bool). cond t (negsuc (q - suc m)) (pos (m - q))) (le-ltb m q (omega arith)) ∙ ap pos e
+
+pub valueOf-negative : (x : ℕ) (s : List ℕ) → T (allBytes (x ∷ s)) → 0x80 ≤ x → valueOf (x ∷ s) +ℤ pos (256 ^ length (x ∷ s)) ≡ pos (bigEndian (x ∷ s))
+unfolding valueOf bigEndian
+valueOf-negative x s h l =
+    let n = suc (length s) in
+    let b = x * 256 ^ length s + bigEndian s in
+    let k : 2 ^ (8 * n - 1) ≤ b = rw (← half-bits (length s)) (omega (arith, mul-le-mul-right (256 ^ length s) l)) in
+    ap (λ (t : Bool). cond t (pos b) (negsuc (2 ^ (8 * n) - suc b)) +ℤ pos (256 ^ n)) (le-ltb b (2 ^ (8 * n - 1)) k)
+    ∙ rw (256^-bits n) (more (2 ^ (8 * n)) b (bits-< (x ∷ s) h))
 
 -- no other bytes of that length
 pub valueOf-injective : (s t : List ℕ) → T (allBytes s) → T (allBytes t) → length s ≡ length t → valueOf s ≡ valueOf t → s ≡ t
