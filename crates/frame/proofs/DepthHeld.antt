@@ -1,8 +1,7 @@
 -- The depth at which a tree can be held decides nothing but how deep the tree may be: held at d is held at the tree's own depth, and that is at most d.
-use Prim.Native.Nat.{ℕ, zero, suc, max, _≤_}
+use Prim.Native.Nat.{ℕ, zero, suc, _≤_}
 use mathlib.Core.Bool.{Bool, _&&_}
-use mathlib.Core.Logic.{_↔_}
-use native.Mathlib.Nat.{max-le, le-max-left, le-max-right, le-trans, le-of-suc-le-suc, le-refl}
+use native.Mathlib.Nat.{max-le, le-max-left, le-max-right, le-trans, le-of-suc-le-suc}
 use native.Mathlib.Omega.{arith}
 use lib.Dec.{T, ltb}
 use lib.Ieee.Fits.{and-l, and-r, and-i}

@@ -1,7 +1,7 @@
 -- What is a frame, both ways (numbers 2 and 5): the bytes of a tree, at most 65,535 of them, at most 16 deep, with every number, length,
 -- count, kind and text of the tree in range. Nothing else is one.
 use Prim.Native.Nat.{ℕ, _≤_}
-use mathlib.Core.Path.{_≡_, sym, subst}
+use mathlib.Core.Path.{_≡_, subst}
 use mathlib.Core.List.{List}
 use mathlib.Core.Logic.{_↔_}
 use mathlib.Core.Option.{some}

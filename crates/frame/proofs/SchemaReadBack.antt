@@ -1,5 +1,5 @@
 -- A schema that is read, written again, is the bytes that it was read from; and every number in it is in range.
-use Prim.Native.Nat.{ℕ, zero, suc, _≤_, _<_, _^_}
+use Prim.Native.Nat.{ℕ, zero, suc, _≤_}
 use mathlib.Core.Path.{_≡_, refl, sym, ap, _∙_, subst}
 use mathlib.Core.List.{List, [], _∷_, _++_, append-assoc}
 use mathlib.Core.Option.{Option, none, some}
@@ -12,18 +12,17 @@ use Rattle.base.specs.Base.{if_then_else_}
 use Rattle.base.proofs.Okay.{Found}
 use Rattle.number.specs.Number.{allBytes, bytesOf}
 use Rattle.text.specs.Text.{Text}
-use Rattle.text.specs.Read.{Read, _>>=_, readNumber, readText}
+use Rattle.text.specs.Read.{Read, readNumber, readText}
 use Rattle.frame.specs.Kind
-use Rattle.frame.specs.Tree.{Value, Schema, UuidForm}
+use Rattle.frame.specs.Tree.{Value, Schema}
 use Rattle.frame.specs.Readers.{readFlag, readList, readOption}
 use Rattle.frame.specs.ValueFrame.{readValue, writeText, encodeValue}
-use Rattle.frame.specs.SchemaFrame.{Field, fieldsOf, variantsOf, readField, readLead, readUuidForm, readSymbols, bare, readSchemaContent, readSchema, decodeSchema, writeOption, writeAll, writeList, writeLead, writeUuidForm, countFields, encodeSchema, encodeFields, encodeVariants}
-use Rattle.frame.specs.Sound.{countVariants}
+use Rattle.frame.specs.SchemaFrame.{Field, fieldsOf, variantsOf, readField, readLead, readUuidForm, readSymbols, bare, readSchemaContent, readSchema, decodeSchema, writeOption, writeAll, writeList, writeLead, writeUuidForm, encodeSchema, encodeFields, encodeVariants}
 use Rattle.frame.proofs.SchemaNodes.{count-variants}
 use Rattle.frame.proofs.ReadHeld.{Each, Got, got-if, got-bind, number-got, text-got, list-got, option-got, value-got, symbols-got, whole-got, count-fields}
 use Rattle.frame.proofs.ReadBack.{Exact, Any, Behind, exact-if, exact-bind, exact-then, number-exact, flag-exact, text-exact, list-exact, behind-bind, behind-exact, value-exact, whole-exact}
 use Rattle.frame.proofs.RoundTrip.{held}
-use Rattle.frame.proofs.SchemaRoundTrip.{apart₃, HeldNumber, HeldSize, HeldForm, HeldLead, HeldTables, HeldNumbers, HeldFieldNumbers, HeldVariantNumbers}
+use Rattle.frame.proofs.SchemaRoundTrip.{apart₃, HeldSize, HeldForm, HeldLead, HeldNumbers, HeldFieldNumbers, HeldVariantNumbers}
 
 -- ---- the bytes that it was read from
 

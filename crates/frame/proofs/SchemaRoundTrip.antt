@@ -1,14 +1,12 @@
 -- A schema tree that a frame can hold, written and read again, is the tree.
 use Prim.Native.Nat.{ℕ, zero, suc, _^_, _<_}
-use mathlib.Core.Path.{_≡_, refl, ap, _∙_}
+use mathlib.Core.Path.{_≡_, refl, ap}
 use mathlib.Core.List.{List, [], _∷_, _++_, append-assoc, append-nil}
 use mathlib.Core.Option.{Option, none, some}
-use mathlib.Core.Bool.{Bool, true, false, _||_, _&&_}
 use native.Mathlib.Omega.{arith}
-use lib.Dec.{T, leb, ltb, eqb, lt→ltb}
+use lib.Dec.{T, leb, ltb}
 use lib.ListN.{length}
 use lib.Ieee.Bits.{is-true}
-use Rattle.base.specs.Base.{if_then_else_}
 use Rattle.number.specs.Number.{bytesOf}
 use Rattle.text.specs.Text.{Text}
 use Rattle.text.specs.Read.{Read, _>>=_, readNumber, readText}
@@ -18,7 +16,7 @@ use Rattle.frame.specs.Readers.{readMany, readList, readOption}
 use Rattle.frame.specs.ValueFrame.{readValue, writeText, encodeValue}
 use Rattle.frame.specs.SchemaFrame.{Field, fieldsOf, variantsOf, readField, readLead, readUuidForm, readSymbols, bare, readSchemaContent, readSchema, decodeSchema, writeOption, writeAll, writeList, writeLead, writeUuidForm, countFields, encodeSchema, encodeFields, encodeVariants}
 use Rattle.frame.specs.Sound.{countVariants}
-use Rattle.frame.proofs.ReadHeld.{Each, Under, HeldText, HeldDefault, HeldSchema, HeldFields, HeldVariants}
+use Rattle.frame.proofs.ReadHeld.{Each, HeldText, HeldDefault, HeldSchema, HeldFields, HeldVariants}
 use Rattle.frame.proofs.RoundTrip.{textHeld, readNumber-back, readFlag-back, readText-back, list-back, many-back, value-back, whole-back}
 
 -- ---- what HeldSchema leaves: every size, precision and scale, and all that a union's tables hold, is in range

@@ -1,21 +1,14 @@
--- Document 01's order of map keys, "by their bytes": a proper prefix is below, else the first difference decides. `less` is exactly that, and transitive.
-use Prim.Native.Nat.{ℕ, _<_}
+-- `less` is exactly document 01's order of map keys, and that order is transitive.
+use Prim.Native.Nat.{_<_}
 use mathlib.Core.Path.{_≡_, refl, _∙_}
-use mathlib.Core.List.{List, [], _∷_}
+use mathlib.Core.List.{[], _∷_}
 use mathlib.Core.Bool.{Bool, true, false}
 use native.Mathlib.Omega.{arith}
 use lib.Dec.{T, eqb, ltb, lt→ltb, ltb→lt}
 use borrow.Author.Tests.{eqb-true, eq-eqb, ne-eqb}
 use Rattle.base.specs.Base.{if_then_else_}
 use Rattle.text.specs.Text.{Text, less}
-
-pub data Below : Text → Text → Type 0 where
-  -- a proper prefix
-  prefix : {y : ℕ} {ys : Text} → Below [] (y ∷ ys)
-  -- the first difference
-  differ : {x y : ℕ} {xs ys : Text} → x < y → Below (x ∷ xs) (y ∷ ys)
-  -- a byte that both have
-  share : {x y : ℕ} {xs ys : Text} → x ≡ y → Below xs ys → Below (x ∷ xs) (y ∷ ys)
+use Rattle.text.specs.Order.{Below, prefix, differ, share}
 
 pub less→Below : (a b : Text) → T (less a b) → Below a b
 unfolding less
