@@ -19,7 +19,7 @@ use Rattle.frame.specs.Readers.{readOption}
 use Rattle.frame.specs.SchemaFrame.{readUuidForm, readSchemaContent, readSchema}
 use Rattle.frame.proofs.Reading.{read-what, read-rest, not-both, bind-inv, map-inv, reads-some, reads-number, option-zero, option-one, option-long, option-is-one}
 use Rattle.frame.proofs.SchemaNodes.{schema-kind}
-use Rattle.schema.proofs.Leaves.{kind-past}
+use Rattle.schema_parts.proofs.Leaves.{kind-past}
 use Rattle.avro.specs.Union.{schema-to-base-schemakind, unnamedKind, namedKind, mustBeTried}
 use Rattle.resolution.specs.Contract.{wantedOf}
 use Rattle.resolution.specs.UnionContract.{Among, WasNamed, baseRead, soonerOf}

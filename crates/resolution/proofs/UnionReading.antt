@@ -24,7 +24,7 @@ use Rattle.frame.specs.Checks.{Spans}
 use Rattle.frame.proofs.Reading.{read-what, read-rest, not-both, bind-inv, reads-some}
 use Rattle.frame.proofs.Counting.{First, many-first, many-none, many-length, list-some}
 use Rattle.frame.proofs.SchemaNodes.{schema-there, schema-opened, count-variants}
-use Rattle.schema.proofs.Tables.{lead-short, lead-got}
+use Rattle.schema_parts.proofs.Tables.{lead-short, lead-got}
 use Rattle.resolution.specs.Contract.{unionVariants, kindTable, namedTable}
 use Rattle.resolution.specs.UnionContract.{OnRead, OnBoth, Passed, Numbers, countOf}
 

@@ -1,13 +1,13 @@
 // Reading a schema node and checking all that number 3 stops. Broken anywhere wins over unsound anywhere.
-use crate::default::default_check;
-use crate::leaf::leaf_check;
 use crate::names::names_differ;
 use crate::plain::is_bare;
-use crate::table::leads_check;
-use crate::table::positions_check;
 use frame::Checked;
 use frame::both;
 use number::read2;
+use schema_default::default_check;
+use schema_parts::leads_check;
+use schema_parts::leaf_check;
+use schema_parts::positions_check;
 use text::Len;
 use text::text_len;
 ghost use Rattle.frame.specs.Readers.{readList};

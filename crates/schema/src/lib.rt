@@ -1,11 +1,8 @@
 // Schema frames: reading them, and what is sound in them.
 mod check;
-mod default;
-mod leaf;
 mod names;
 mod plain;
 mod skip;
-mod table;
 mod whole;
 
 pub use check::schema_check;

@@ -1,8 +1,8 @@
 // The lengths of parts of schema nodes that hold no node and are known to be there.
-use crate::leaf::leaf_check;
 use frame::Checked;
 use frame::texts_len;
 use number::read2;
+use schema_parts::leaf_check;
 use text::content;
 use value::value_len;
 ghost use mathlib.Core.Path.{_≡_};

@@ -39,13 +39,13 @@ use Rattle.schema.proofs.check.variants_check.Reads as variants-check
 use Rattle.schema.proofs.check.variants_check.Kinds as variants-check-kinds
 use Rattle.schema.proofs.check.+content_check+field_check+fields_check+record_check+schema_check+union_check+variants_check.Lts-variants_check as variants-check-lts
 use Rattle.number.proofs.read2.Reads as read2-reads
-use Rattle.schema.proofs.default.default_check.Reads as default-check-reads
-use Rattle.schema.proofs.leaf.leaf_check.Reads as leaf-check-reads
+use Rattle.schema_default.proofs.default_check.Reads as default-check-reads
+use Rattle.schema_parts.proofs.leaf_check.Reads as leaf-check-reads
 use Rattle.schema.proofs.plain.is_bare.Reads as is-bare-reads
 use Rattle.schema.proofs.names.names_differ.Reads as names-differ-reads
 use Rattle.frame.proofs.both.Reads as both-reads
-use Rattle.schema.proofs.table.leads_check.Reads as leads-check-reads
-use Rattle.schema.proofs.table.positions_check.Reads as positions-check-reads
+use Rattle.schema_parts.proofs.leads_check.Reads as leads-check-reads
+use Rattle.schema_parts.proofs.positions_check.Reads as positions-check-reads
 use Rattle.text.proofs.text_len.Reads as text-len-reads
 use Rattle.schema.proofs.check.+content_check+field_check+fields_check+record_check+schema_check+union_check+variants_check.{
   statement,
