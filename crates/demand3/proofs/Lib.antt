@@ -7,3 +7,4 @@ pub mod Instances
 pub mod Meeting
 pub mod Pairs
 pub mod Stripping
+pub mod Sentences

@@ -74,7 +74,7 @@ pub data Meets : Schema → Value → Schema → Value → Type 0 where
 
 -- ---- what holds of the parts of a list
 
-item-holds : (f : Value → Bool) {v : Value} {vs : Values} → Item v vs → T (allItems f vs) → T (f v)
+pub item-holds : (f : Value → Bool) {v : Value} {vs : Values} → Item v vs → T (allItems f vs) → T (f v)
 unfolding allItems
 item-holds f {v} (this-item {vs = vs}) h = and-l (f v) (allItems f vs) h
 item-holds f (later-item {w = w} {vs = vs} i) h = item-holds f i (and-r (f w) (allItems f vs) h)
@@ -84,7 +84,7 @@ unfolding allItems
 items-hold f noItems h = tt
 items-hold f (item v vs) h = and-i (f v) (allItems f vs) (h v this-item) (items-hold f vs (λ w i. h w (later-item i)))
 
-entry-holds : (f : Value → Bool) {v : Value} {es : Entries} → Held v es → T (allEntries f es) → T (f v)
+pub entry-holds : (f : Value → Bool) {v : Value} {es : Entries} → Held v es → T (allEntries f es) → T (f v)
 unfolding allEntries
 entry-holds f {v} (this-entry {es = es}) h = and-l (f v) (allEntries f es) h
 entry-holds f (later-entry {w = w} {es = es} i) h = entry-holds f i (and-r (f w) (allEntries f es) h)

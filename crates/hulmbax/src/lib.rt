@@ -105,9 +105,9 @@ pub fn resolve(schema: &[u8], record: &[u8], result: &mut [u8], workspace: &mut 
     if workspace.len() < 65536 {
         return Resolved::Refused(1);
     }
-    let r = resolve_in(schema, record, result, &mut workspace[..65536]);
-    buffer::clear(&mut workspace[..65536], used(r));
-    r
+    let told = resolve_in(schema, record, result, &mut workspace[..65536]);
+    buffer::clear(&mut workspace[..65536], used(told));
+    told
 }
 
 // The answer as one signed number for C: the length of an accepted result, or the refusal's number negated.

@@ -1,6 +1,5 @@
 -- `hulmbax::hulmbax_resolve` meets its contract: it is `resolve`, and its answer's code.
 use mathlib.Core.Path.{sym, ap, subst, _∙_}
-use lib.ListN.{length}
 use mir.Syntax.{w32}
 use mir.ValLaws.{toZ-ofZ}
 use borrow.Author.Needs.{needs}
@@ -17,7 +16,7 @@ resolve-requires : tie.Need-resolve-requires
 resolve-requires c κs = search needs
 
 code-requires : tie.Need-code-requires
-code-requires c κs = subst Bounded (sym (c .before .before .before .before .resolve .ensures .0)) (answer-bounded (c .before .before .before .before .before .before .before .before .before .before .before .args .schema .now) (c .before .before .before .before .before .before .before .before .before .before .before .args .«record» .now) (length (c .before .before .before .before .before .before .before .before .before .before .before .args .result .now)) (length (c .before .before .before .before .before .before .before .before .before .before .before .args .workspace .now)))
+code-requires c κs = subst Bounded (sym (c .before .before .before .before .resolve .ensures .0)) (answer-bounded _ _ _ _)
 
 same-length : tie.Need-same-length
 same-length c = search needs
