@@ -15,26 +15,13 @@ use Rattle.hulmbax.specs.Entry.{resolvedOf}
 use Rattle.hulmbax.specs.declared.Resolved.{Resolved}
 use Rattle.hulmbax.specs.declared.Resolved.the-variants.{Accepted, Refused}
 use Rattle.hulmbax.proofs.EntryLaws.{answer-is}
+use Rattle.hulmbax.proofs.Told.{ok-is, stop-is}
 use Rattle.hulmbax.proofs.Bounds.{Small, answer-small, answer-refusal-small, answer-accepted-small}
 use Rattle.lines.specs.Line.{answerLine}
 use Rattle.lines.proofs.LineLaws.{length-ok, length-stop}
 
--- ---- what the entry hands over
+-- ---- what the entry hands over, for a program's buffers
 
-ok-is : (x : Result (List ℕ)) (o o' : List ℕ) (n : ℕ) → Accepted n ≡ resolvedOf x → o' ≡ bufferAfter x o → (x ≡ ok (take n o')) × (length (take n o') ≡ n)
-unfolding resolvedOf bufferAfter
-ok-is (ok b) o o' n e f =
-    let i : n ≡ length b = cc in
-    let k : take n o' ≡ b = ap (take n) f ∙ take-at b (drop (length b) o) n (sym i) in
-    rw k (refl, sym i)
-ok-is (stop m) o o' n e f = let z : _≡_ {A = ℕ} 0 1 = cc in absurd (omega arith)
-
-stop-is : (x : Result (List ℕ)) (n : ℕ) → Refused n ≡ resolvedOf x → x ≡ stop n
-unfolding resolvedOf
-stop-is (ok b) n e = let z : _≡_ {A = ℕ} 0 1 = cc in absurd (omega arith)
-stop-is (stop m) n e = let i : m ≡ n = cc in ap (λ (k : ℕ). stop k) i
-
--- for a program's buffers
 module _ (s v o w : List ℕ) (lo : length o ≡ 65535) (lw : workspaceSize ≤ length w) where
   same : answer s v (length o) (length w) ≡ answer s v 65535 workspaceSize
   same = answer-is s v (length o) (length w) lw ∙ sym (answer-is s v (length o) workspaceSize (omega arith)) ∙ ap (λ (k : ℕ). answer s v k workspaceSize) lo
@@ -43,12 +30,12 @@ module _ (s v o w : List ℕ) (lo : length o ≡ 65535) (lw : workspaceSize ≤ 
     pub accepted-is : r ≡ Accepted n → o' ≡ bufferAfter (answer s v (length o) (length w)) o → (answer s v 65535 workspaceSize ≡ ok (take n o')) × ((length (take n o') ≡ n) × (n ≤ 65535))
     accepted-is p f =
         let i : (answer s v (length o) (length w) ≡ ok (take n o')) × (length (take n o') ≡ n) = ok-is (answer s v (length o) (length w)) o o' n (sym p ∙ e) f in
-        (sym same ∙ i .0, (i .1, omega (arith, i .1, answer-accepted-small s v (length o) (length w) (take n o') (i .0))))
+        (sym same ∙ i .0, (i .1, omega (arith, i .1, answer-accepted-small s v (length o) (length w) (take n o') (i .0) .1)))
 
     pub refused-is : r ≡ Refused n → (answer s v 65535 workspaceSize ≡ stop n) × (n ≤ 18)
     refused-is p =
         let i : answer s v (length o) (length w) ≡ stop n = stop-is (answer s v (length o) (length w)) n (sym p ∙ e) in
-        (sym same ∙ i, answer-refusal-small s v (length o) (length w) n i)
+        (sym same ∙ i, answer-refusal-small s v (length o) (length w) n i .1)
 
 -- ---- the line of an answer
 

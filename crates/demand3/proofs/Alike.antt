@@ -20,8 +20,11 @@ use Rattle.avro.specs.Union.{Trial, resolve-union}
 use Rattle.avro.specs.Resolve.{resolve, resolveFields, startDefault, trials, resolve-array, resolve-map, resolve-record, eachItem, eachEntry, fieldValue, lookup, orElse}
 use Rattle.avro.specs.Defaults.{defaultsShort}
 use Rattle.hulmbax.specs.Answer.{answer, checkedSchema, checkedValue, checkedResult, bufferAfter, workspaceAfter, workspaceSize}
+use Rattle.hulmbax.specs.Entry.{resolvedOf}
+use Rattle.hulmbax.specs.declared.Resolved.{Resolved}
 use Rattle.frame.proofs.SoundLaws.{sound-field}
-use Rattle.demand3.specs.Demand3.{Alike, AreAlike, nullablePair, nullablePairs, isNull, onlyNullLeadsTo, underUnion, change, mapItems, mapEntries, hasName, keepEntry, keepEntries, strip, stripField}
+use Rattle.demand3.specs.Demand3.{nullablePair, nullablePairs, isNull, onlyNullLeadsTo, underUnion, change, mapItems, mapEntries, hasName, keepEntry, keepEntries, strip, stripField}
+use Rattle.demand3.specs.Claims.{AreAlike, Alike}
 use Rattle.demand3.proofs.Induction.{pair, EveryField, Steps, induction}
 
 -- ---- texts
@@ -144,7 +147,7 @@ unfolding lookup keepEntry orElse isSome
 keep-hit n v w f none rest p e = rw (e, is-true (same n n) (same-refl n), p)
 keep-hit n v w f (some x) rest p e = rw e
 
-lookup-keep : (g : Text → Value → Option Value) (n : Text) (f : Value → Value) → ((v : Value) → g n v ≡ some (f v))
+pub lookup-keep : (g : Text → Value → Option Value) (n : Text) (f : Value → Value) → ((v : Value) → g n v ≡ some (f v))
     → (es : Entries) → lookup n (keepEntries g es) ≡ Option·map f (lookup n es)
 unfolding lookup keepEntries orElse
 lookup-keep g n f e noEntries = refl
@@ -207,7 +210,7 @@ fields-same g (field n d s fs) c a es =
 -- ---- unions
 
 -- a Null schema strips nothing
-null-strip : (a : Schema) → T (isNull a) → (v : Value) → strip a v ≡ v
+pub null-strip : (a : Schema) → T (isNull a) → (v : Value) → strip a v ≡ v
 unfolding strip schemaKind
 null-strip (Schema.Plain k) h v = refl
 null-strip (Schema.Fixed n) h v = absurd h
@@ -388,8 +391,17 @@ answers-same schema a b tree e p l buffer workspace =
     rw (e, l .left-is, l .right-is, is-true (keysRise (l .left)) (l .left-keys), is-true (keysRise (l .right)) (l .right-keys))
     (ap (λ (r : Result (List ℕ)). if ltb workspace workspaceSize then stop 1 else r) (checked-same tree p (l .left) (l .right) (l .equal) (λ r. checkedResult buffer (encodeValue r))))
 
+-- what two calls show of one answer
+pub one-answer : (x y : Result (List ℕ)) → x ≡ y → (buffer workspace buffer₁ workspace₁ buffer₂ workspace₂ : List ℕ) (r₁ r₂ : Resolved)
+    → r₁ ≡ resolvedOf x → buffer₁ ≡ bufferAfter x buffer → workspace₁ ≡ workspaceAfter x workspace
+    → r₂ ≡ resolvedOf y → buffer₂ ≡ bufferAfter y buffer → workspace₂ ≡ workspaceAfter y workspace
+    → (r₁ ≡ r₂) × (buffer₁ ≡ buffer₂) × (workspace₁ ≡ workspace₂)
+one-answer x y q buffer workspace buffer₁ workspace₁ buffer₂ workspace₂ r₁ r₂ a b c d e f =
+    (a ∙ ap resolvedOf q ∙ sym d, b ∙ ap (λ (z : Result (List ℕ)). bufferAfter z buffer) q ∙ sym e, c ∙ ap (λ (z : Result (List ℕ)). workspaceAfter z workspace) q ∙ sym f)
+
 pub alike : Alike
 unfolding Alike
-alike schema a b tree e p l buffer workspace =
-    let q : answer schema a (length buffer) (length workspace) ≡ answer schema b (length buffer) (length workspace) = answers-same schema a b tree e p l (length buffer) (length workspace) in
-    (q, ap (λ (r : Result (List ℕ)). bufferAfter r buffer) q, ap (λ (r : Result (List ℕ)). workspaceAfter r workspace) q)
+alike schema tree e p a b l buffer workspace buffer₁ workspace₁ buffer₂ workspace₂ r₁ r₂ x y =
+    one-answer (answer schema a (length buffer) (length workspace)) (answer schema b (length buffer) (length workspace))
+    (answers-same schema a b tree e p l (length buffer) (length workspace))
+    buffer workspace buffer₁ workspace₁ buffer₂ workspace₂ r₁ r₂ (x .answered) (x .contents) (x .cleared) (y .answered) (y .contents) (y .cleared)

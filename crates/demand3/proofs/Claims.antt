@@ -1,29 +1,41 @@
--- Demand 3's claims of fitting and repeating, for the frames that go in and come out.
+-- Demand 3's claims of fitting and repeating hold of the entry.
 use Prim.Native.Nat.{ℕ, _≤_}
-use mathlib.Core.Path.{_≡_, refl, sym, ap, _∙_}
+use mathlib.Core.Path.{_≡_, refl, sym, ap, _∙_, subst}
 use mathlib.Core.List.{List, [], _∷_}
 use mathlib.Core.Option.{some}
 use mathlib.Core.Bool.{Bool, true, false, _&&_, _||_, not}
-use lib.Dec.{T, leb, ltb, leb→le, le→leb, nltb→le}
+use lib.Dec.{T, ltb, le→leb, nltb→le}
 use lib.Arith.{le→nltb}
-use lib.ListN.{length, drop}
-use lib.Seq.{take-at}
+use lib.ListN.{length, take}
 use lib.Ieee.Bits.{is-true, is-false}
-use lib.Ieee.Fits.{and-l, and-r}
 use Rattle.base.specs.Base.{if_then_else_, Result, ok, stop, after}
 use Rattle.base.proofs.Okay.{Okay, okay-if, okay-after, okay-is}
+use Rattle.number.specs.Number.{allBytes}
 use Rattle.frame.specs.Tree.{Value, Schema}
 use Rattle.frame.specs.ValueFrame.{decodeValue, encodeValue}
 use Rattle.frame.specs.Sound.{keysRise, schemaSound}
 use Rattle.avro.specs.Resolve.{resolve}
 use Rattle.avro.specs.Defaults.{defaultsShort}
 use Rattle.hulmbax.specs.Answer.{answer, checkedSchema, checkedValue, checkedResult, bufferAfter, workspaceSize}
-use Rattle.demand3.specs.Demand3.{Accepted, Fits, Repeats, standing, repeats, longEnough}
+use Rattle.hulmbax.specs.Entry.{resolvedOf}
+use Rattle.hulmbax.specs.declared.Resolved.the-variants.{Accepted, Refused}
+use Rattle.hulmbax.proofs.Told.{ok-is, buffer-accepted}
+use Rattle.demand3.specs.Demand3.{nullablePairs, noStringMeets}
+use Rattle.demand3.specs.Claims.{Called, Suits, Fits, Repeat, standing, Repeated, AllGive, Repeats}
 use Rattle.frame.proofs.RoundTrip.{held, decode-encode}
 use Rattle.frame.proofs.ReadHeld.{decode-held, schema-held}
 use Rattle.types.proofs.HeldLeaves.{Kept}
 use Rattle.avro.proofs.Held.{kept-resolve}
 use Rattle.demand3.proofs.Settle.{Stable, settled}
+
+-- an accepted call, and its result
+record AcceptedCall (schema value result : List ℕ) : Type 0 where
+  schema-bytes : T (allBytes schema)
+  value-bytes : T (allBytes value)
+  suits : Suits schema value
+  buffer : ℕ
+  workspace : ℕ
+  result-is : answer schema value buffer workspace ≡ ok result
 
 -- what an accepted answer says of its trees
 pub record Made (tree : Schema) (input : Value) (result : List ℕ) : Type 0 where
@@ -80,46 +92,41 @@ made tree input buffer workspace =
     }
     okay-after′ s p v q r e (stop n) w = tt
 
-made-of : {schema value result : List ℕ} (a : Accepted schema value result) → Made (a .tree) (a .input) result
+made-of : {schema value result : List ℕ} (a : AcceptedCall schema value result) → Made (a .suits .tree) (a .suits .input) result
 unfolding answer
 made-of {schema} {value} {result} a =
-    okay-is (Made (a .tree) (a .input)) _ result (made (a .tree) (a .input) (a .buffer) (a .workspace)) (rw (a .schema-is, a .value-is) at (a .result-is))
+    okay-is (Made (a .suits .tree) (a .suits .input)) _ result (made (a .suits .tree) (a .suits .input) (a .buffer) (a .workspace)) (rw (a .suits .schema-is, a .suits .value-is) at (a .result-is))
 
 frame-back : (r : Value) (result : List ℕ) → result ≡ encodeValue r → length result ≤ 65535 → T (held r 16) → decodeValue result ≡ some r
 frame-back r result e l h = ap decodeValue e ∙ decode-encode r h (le→leb (length (encodeValue r)) 65535 (rw e at l))
 
 -- the result as a tree
-result-tree : {schema value result : List ℕ} (a : Accepted schema value result) → (r : Value) × (decodeValue result ≡ some r) × Stable (a .tree) r × T (keysRise r) × (encodeValue r ≡ result)
+result-tree : {schema value result : List ℕ} (a : AcceptedCall schema value result) → (r : Value) × (decodeValue result ≡ some r) × Stable (a .suits .tree) r × T (keysRise r) × (encodeValue r ≡ result)
 result-tree {schema} {value} {result} a =
-    let m : Made (a .tree) (a .input) result = made-of a in
+    let m : Made (a .suits .tree) (a .suits .input) result = made-of a in
     let r : Value = m .outcome in
-    let k : Kept 16 r = okay-is (Kept 16) (resolve (a .tree) (a .input)) r
-    (kept-resolve (a .tree) 16 (schema-held schema (a .tree) (a .schema-bytes) (a .schema-is)) (m .sound) (a .input) 16
-    (decode-held value (a .input) (a .value-bytes) (a .value-is)) (m .keys)) (m .resolved) in (
+    let k : Kept 16 r = okay-is (Kept 16) (resolve (a .suits .tree) (a .suits .input)) r
+    (kept-resolve (a .suits .tree) 16 (schema-held schema (a .suits .tree) (a .schema-bytes) (a .suits .schema-is)) (m .sound) (a .suits .input) 16
+    (decode-held value (a .suits .input) (a .value-bytes) (a .suits .value-is)) (m .keys)) (m .resolved) in (
       r,
       frame-back r result (m .bytes) (m .size) (k .holds),
-      settled (a .tree) (m .sound) (a .pairs) (a .input) r (a .no-string) (m .resolved),
+      settled (a .suits .tree) (m .sound) (a .suits .pairs) (a .suits .input) r (a .suits .no-string) (m .resolved),
       k .keys,
       sym (m .bytes),
     )
 
--- the result is a frame that fits the schema
-pub fitting : Fits
-unfolding Fits
-fitting schema value result a = let t = result-tree a in (t .0, t .1, t .2 .fitting)
-
 -- one repeat
-again : {schema value result : List ℕ} (a : Accepted schema value result) (buffer workspace : ℕ) → length result ≤ buffer → workspaceSize ≤ workspace
+again : {schema value result : List ℕ} (a : AcceptedCall schema value result) (buffer workspace : ℕ) → length result ≤ buffer → workspaceSize ≤ workspace
     → answer schema result buffer workspace ≡ ok result
 unfolding answer checkedSchema checkedValue checkedResult after
 again {schema} {value} {result} a buffer workspace b w =
-    let m : Made (a .tree) (a .input) result = made-of a in
-    let t : (r : Value) × (decodeValue result ≡ some r) × Stable (a .tree) r × T (keysRise r) × (encodeValue r ≡ result) = result-tree a in
+    let m : Made (a .suits .tree) (a .suits .input) result = made-of a in
+    let t : (r : Value) × (decodeValue result ≡ some r) × Stable (a .suits .tree) r × T (keysRise r) × (encodeValue r ≡ result) = result-tree a in
     rw (
       is-false (ltb workspace workspaceSize) (le→nltb workspace workspaceSize w),
-      a .schema-is,
-      is-true (schemaSound (a .tree)) (m .sound),
-      is-true (defaultsShort (a .tree)) (m .short),
+      a .suits .schema-is,
+      is-true (schemaSound (a .suits .tree)) (m .sound),
+      is-true (defaultsShort (a .suits .tree)) (m .short),
       t .1,
       is-true (keysRise (t .0)) (t .3),
       t .2 .again,
@@ -128,18 +135,47 @@ again {schema} {value} {result} a buffer workspace b w =
       is-false (ltb buffer (length result)) (le→nltb buffer (length result) b),
     )
 
--- an accepted result stands at the front of its buffer
-standing-ok : (r buffer : List ℕ) → standing (ok r) buffer ≡ ok r
-unfolding standing bufferAfter
-standing-ok r buffer = ap (λ (l : List ℕ). ok l) (take-at r (drop (length r) buffer) (length r) refl)
+-- ---- the calls
+
+-- an accepted call of the entry is one
+accepted-call : (schema value buffer buffer' workspace workspace' : List ℕ) (n : ℕ) → Called schema value buffer buffer' workspace workspace' (Accepted n) → Suits schema value
+    → AcceptedCall schema value (take n buffer')
+accepted-call schema value buffer buffer' workspace workspace' n c h = record {
+  schema-bytes = c .schema-bytes;
+  value-bytes = c .value-bytes;
+  suits = h;
+  buffer = length buffer;
+  workspace = length workspace;
+  result-is = ok-is (answer schema value (length buffer) (length workspace)) buffer buffer' n (c .answered) (c .contents) .0;
+}
+
+-- an accepted result is a frame that fits the schema
+pub fitting : Fits
+unfolding Fits accepted-call
+fitting schema value buffer buffer' workspace workspace' n c h =
+    let t = result-tree (accepted-call schema value buffer buffer' workspace workspace' n c h) in
+    (t .0, t .1, t .2 .fitting)
+
+-- one repeat gives the result again, where it stands in its buffer
+repeat-gives : {schema value result : List ℕ} (a : AcceptedCall schema value result) (c : Repeat)
+    → Called schema result (c .buffer) (c .buffer') (c .workspace) (c .workspace') (c .told) → length result ≤ length (c .buffer) → workspaceSize ≤ length (c .workspace)
+    → (c .told ≡ Accepted (length result)) × (take (length result) (c .buffer') ≡ result)
+unfolding resolvedOf
+repeat-gives {schema} {value} {result} a c call b w =
+    let e : answer schema result (length (c .buffer)) (length (c .workspace)) ≡ ok result = again a (length (c .buffer)) (length (c .workspace)) b w in (
+      call .answered ∙ ap resolvedOf e,
+      ap (take (length result)) (call .contents ∙ ap (λ (x : Result (List ℕ)). bufferAfter x (c .buffer)) e) ∙ buffer-accepted result (c .buffer) .0,
+    )
 
 -- however often
+all-give : {schema value result : List ℕ} → AcceptedCall schema value result → (calls : List Repeat) → Repeated schema result calls → AllGive result calls
+unfolding Repeated AllGive standing
+all-give a [] h = tt
+all-give {schema} {value} {result} a (c ∷ cs) h =
+    let g : (c .told ≡ Accepted (length result)) × (take (length result) (c .buffer') ≡ result) = repeat-gives a c (h .0) (h .1) (h .2) in
+    let s : standing (c .told) (c .buffer') ≡ result = ap (λ r. standing r (c .buffer')) (g .0) ∙ g .1 in
+    (g .0, g .1, all-give a cs (subst (λ (last : List ℕ). Repeated schema last cs) s (h .3)))
+
 pub repeating : Repeats
-unfolding Repeats repeats longEnough after
-repeating schema value result a [] h = refl
-repeating schema value result a (c ∷ cs) h =
-    let b : Bool = leb (length result) (length (c .buffer)) in
-    let w : Bool = leb workspaceSize (length (c .workspace)) in
-    let h₁ : T (b && w) = and-l (b && w) (longEnough result cs) h in
-    rw (again a (length (c .buffer)) (length (c .workspace)) (leb→le (length result) (length (c .buffer)) (and-l b w h₁)) (leb→le workspaceSize (length (c .workspace)) (and-r b w h₁)), standing-ok result (c .buffer))
-    (repeating schema value result a cs (and-r (b && w) (longEnough result cs) h))
+unfolding Repeats
+repeating schema value buffer buffer' workspace workspace' n c h calls r = all-give (accepted-call schema value buffer buffer' workspace workspace' n c h) calls r

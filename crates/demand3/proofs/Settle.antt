@@ -23,7 +23,8 @@ use Rattle.types.specs.Types.{Outcome, resolvePlain, resolve-null, resolve-bool
 use Rattle.avro.specs.Union.{Trial}
 use Rattle.avro.specs.Resolve.{resolve, resolveFields, startDefault, trials}
 use Rattle.frame.proofs.SoundLaws.{sound-field}
-use Rattle.demand3.specs.Demand3.{nullablePair, nullablePairs, isNull, onlyNullLeadsTo, fits, fieldsFit, variantFits, allItems, allEntries, symbolAt, meetings, fieldMeetings, fieldMeeting, firstMeeting, notStringIntoBytes, noStringMeets}
+use Rattle.demand3.specs.Matches.{allItems, allEntries, symbolAt}
+use Rattle.demand3.specs.Demand3.{nullablePair, nullablePairs, isNull, onlyNullLeadsTo, fits, fieldsFit, variantFits, meetings, fieldMeetings, fieldMeeting, firstMeeting, notStringIntoBytes, noStringMeets}
 use Rattle.avro.specs.Resolve
 use Rattle.types.specs.Types
 use Rattle.types.proofs.ScalarLaws.{int-time-kept, long-time-kept}

@@ -1,26 +1,50 @@
--- The entry's answer as one signed number: an accepted length is that of a frame, and a refusal's number can be negated.
+-- The entry's answer as one signed number: it tells which answer it stands for, and a refusal's number can be negated.
 use Prim.Native.Nat.{ℕ, zero, suc, _<_}
-use mathlib.Core.Path.{_≡_, sym, ap, _∙_, subst}
+use mathlib.Core.Path.{_≡_, refl, sym, ap, _∙_, subst}
 use mathlib.Core.List.{List}
 use native.Mathlib.Omega.{arith}
-use lib.IntN.{ℤ, pos, negℤ, _-ℤ_, +ℤ-idl}
+use lib.IntN.{ℤ, pos, negsuc, negℤ, _-ℤ_, +ℤ-idl}
 use mir.Syntax.{w32}
 use mir.Val.{SFits, toZ, ofZ}
 use mir.ValLaws.{toZ-ofZ, toZ-pos}
 use Rattle.base.specs.Base.{Result, ok, stop}
 use Rattle.hulmbax.specs.Answer.{answer}
-use Rattle.hulmbax.specs.Entry.{Short, resolvedOf}
+use Rattle.hulmbax.specs.Entry.{Bounded, codeOf, readCode, resolvedOf}
+use Rattle.hulmbax.specs.declared.Resolved.{Resolved}
+use Rattle.hulmbax.specs.declared.Resolved.the-variants.{Accepted, Refused}
 use Rattle.hulmbax.proofs.Bounds.{Small, answer-small}
 
--- ---- an accepted length is that of a frame
+-- ---- every answer is a length from 1 or a number from 1
 
-pub answer-short : (s v : List ℕ) (len work : ℕ) → Short (resolvedOf (answer s v len work))
-unfolding Short resolvedOf
-answer-short s v len work = go (answer s v len work) (answer-small s v len work)
+pub answer-bounded : (s v : List ℕ) (len work : ℕ) → Bounded (resolvedOf (answer s v len work))
+unfolding Bounded resolvedOf
+answer-bounded s v len work = go (answer s v len work) (answer-small s v len work)
   where
-    go : (x : Result (List ℕ)) → Small x → Short (resolvedOf x)
+    go : (x : Result (List ℕ)) → Small x → Bounded (resolvedOf x)
     go (ok r) h = h
-    go (stop n) h = tt
+    go (stop n) h = h
+
+-- ---- which one, the number tells: a length is positive, a refusal negative
+
+pub code-accepted : (n : ℕ) → Bounded (Accepted n) → (k : ℕ) × (codeOf (Accepted n) ≡ pos (suc k))
+unfolding Bounded codeOf
+code-accepted zero h = absurd (omega (arith, h .0))
+code-accepted (suc k) h = (k, refl)
+
+pub code-refused : (e : ℕ) → Bounded (Refused e) → (k : ℕ) × (codeOf (Refused e) ≡ negsuc k)
+unfolding Bounded codeOf
+code-refused zero h = absurd (omega (arith, h .0))
+code-refused (suc k) h = (k, refl)
+
+pub read-code : (r : Resolved) → Bounded r → readCode (codeOf r) ≡ r
+unfolding Bounded codeOf readCode
+read-code (Accepted n) h = refl
+read-code (Refused zero) h = absurd (omega (arith, h .0))
+read-code (Refused (suc k)) h = refl
+
+-- so two answers with one number are the same
+pub code-injective : (r q : Resolved) → Bounded r → Bounded q → codeOf r ≡ codeOf q → r ≡ q
+code-injective r q h k e = sym (read-code r h) ∙ ap readCode e ∙ read-code q k
 
 -- ---- a refusal's number negated
 

@@ -383,7 +383,7 @@ answerFor-not-1 s v len e = go (answerFor s v len) e
     go (stop n) e f = f (cc)
 
 -- after any other answer its first 65,536 bytes are zero
-zeroed : (x : Result (List ℕ)) (w : List ℕ) → (x ≡ stop 1 → ⊥) → workspaceAfter x w ≡ replicate 65536 0 ++ drop 65536 w
+pub zeroed : (x : Result (List ℕ)) (w : List ℕ) → (x ≡ stop 1 → ⊥) → workspaceAfter x w ≡ replicate 65536 0 ++ drop 65536 w
 unfolding workspaceAfter
 zeroed (ok r) w f = refl
 zeroed (stop n) w f = go (eqb n 1) refl

@@ -3,3 +3,5 @@ pub mod Computed
 pub mod EntryLaws
 pub mod Bounds
 pub mod CodeLaws
+pub mod Answered
+pub mod Told

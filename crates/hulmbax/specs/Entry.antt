@@ -1,7 +1,7 @@
 -- The entry's answer as document 01's number and length, and what its steps say.
-use Prim.Native.Nat.{ℕ, _≤_}
+use Prim.Native.Nat.{ℕ, suc, _≤_}
 use lib.Dec.{ltb}
-use lib.IntN.{ℤ, pos, negℤ}
+use lib.IntN.{ℤ, pos, negsuc, negℤ}
 use mathlib.Core.Path.{_≡_}
 use mathlib.Core.List.{List}
 use lib.ListN.{length}
@@ -35,10 +35,15 @@ unfoldable pub codeOf : Resolved → ℤ
 codeOf (Accepted n) = pos n
 codeOf (Refused e) = negℤ (pos e)
 
--- an accepted length is that of a frame
-unfoldable pub Short : Resolved → Type 0
-Short (Accepted n) = n ≤ 65535
-Short (Refused e) = Unit {0}
+-- how its caller reads that number
+unfoldable pub readCode : ℤ → Resolved
+readCode (pos n) = Accepted n
+readCode (negsuc k) = Refused (suc k)
+
+-- a length is that of a frame, and a refusal is one of document 01's numbers
+unfoldable pub Bounded : Resolved → Type 0
+Bounded (Accepted n) = (1 ≤ n) × (n ≤ 65535)
+Bounded (Refused e) = (1 ≤ e) × (e ≤ 18)
 
 -- how much of the workspace is cleared without a look: the result, and 4,096 bytes in any case
 unfoldable pub usedFor : Resolved → ℕ

@@ -7,7 +7,7 @@ ghost use lib.ListN.{length};
 ghost use Rattle.frame.specs.ValueFrame.{decodeValue};
 ghost use Rattle.frame.specs.SchemaFrame.{decodeSchema};
 ghost use Rattle.hulmbax.specs.Answer.{answer, answerFor, bufferAfter, checkedSchema, checkedValue, workspaceAfter};
-ghost use Rattle.hulmbax.specs.Entry.{Passed, Short, codeOf, resolvedOf, stopOf, usedFor};
+ghost use Rattle.hulmbax.specs.Entry.{Bounded, Passed, codeOf, resolvedOf, stopOf, usedFor};
 
 // A result of so many bytes, or the number of what stopped the record.
 pub enum Resolved {
@@ -105,14 +105,14 @@ pub fn resolve(schema: &[u8], record: &[u8], result: &mut [u8], workspace: &mut 
     if workspace.len() < 65536 {
         return Resolved::Refused(1);
     }
-    let r = resolve_in(schema, record, result, &mut workspace[..65536]);
-    buffer::clear(&mut workspace[..65536], used(r));
-    r
+    let told = resolve_in(schema, record, result, &mut workspace[..65536]);
+    buffer::clear(&mut workspace[..65536], used(told));
+    told
 }
 
 // The answer as one signed number for C: the length of an accepted result, or the refusal's number negated.
 fn code(r: Resolved) -> i32
-    requires { ⌜ Short r ⌝ }
+    requires { ⌜ Bounded r ⌝ }
     ensures { λ n. ⌜ n ≡ codeOf r ⌝ }
 {
     match r {

@@ -1,11 +1,10 @@
 -- `hulmbax::hulmbax_resolve` meets its contract: it is `resolve`, and its answer's code.
 use mathlib.Core.Path.{sym, ap, subst, _∙_}
-use lib.ListN.{length}
 use mir.Syntax.{w32}
 use mir.ValLaws.{toZ-ofZ}
 use borrow.Author.Needs.{needs}
-use Rattle.hulmbax.specs.Entry.{Short, codeOf}
-use Rattle.hulmbax.proofs.CodeLaws.{answer-short}
+use Rattle.hulmbax.specs.Entry.{Bounded, codeOf}
+use Rattle.hulmbax.proofs.CodeLaws.{answer-bounded}
 use Rattle.hulmbax.proofs.hulmbax_resolve.Statement.{statement}
 use Rattle.hulmbax.proofs.hulmbax_resolve.Tie as tie
 use Rattle.hulmbax.proofs.hulmbax_resolve.Reads as reads
@@ -17,7 +16,7 @@ resolve-requires : tie.Need-resolve-requires
 resolve-requires c κs = search needs
 
 code-requires : tie.Need-code-requires
-code-requires c κs = subst Short (sym (c .before .before .before .before .resolve .ensures .0)) (answer-short (c .before .before .before .before .before .before .before .before .before .before .before .args .schema .now) (c .before .before .before .before .before .before .before .before .before .before .before .args .«record» .now) (length (c .before .before .before .before .before .before .before .before .before .before .before .args .result .now)) (length (c .before .before .before .before .before .before .before .before .before .before .before .args .workspace .now)))
+code-requires c κs = subst Bounded (sym (c .before .before .before .before .resolve .ensures .0)) (answer-bounded _ _ _ _)
 
 same-length : tie.Need-same-length
 same-length c = search needs

@@ -1,7 +1,9 @@
 -- `hulmbax::resolve` meets its contract.
-use mathlib.Core.Path.{_≡_, sym, ap, _∙_}
-use lib.ListN.{length, drop}
-use lib.Seq.{length-take-le, take-at}
+use native.Mathlib.Omega.{arith}
+use mathlib.Core.Path.{_≡_, sym, _∙_}
+use mathlib.Core.List.{_++_}
+use lib.ListN.{length, drop, length-append}
+use lib.Seq.{length-take-le}
 use Rattle.hulmbax.proofs.EntryLaws.{too-short, cleared}
 use borrow.Author.Needs.{needs}
 use Rattle.hulmbax.proofs.resolve.Statement.{statement}
@@ -30,7 +32,7 @@ slice-aggregate-clear c =
     let w = c .before .before .before .before .before .before .before .before .before .before .before .before .before .args .workspace .now in
     let y = c .before .before .before .before .before .resolve-in .last .1 .1 .1 .0 in
     let ly : length y ≡ 65536 = c .before .before .before .before .before .resolve-in .kept .1 .1 .1 .0 ∙ length-take-le 65536 w (c .before .before .before .before .before .before .before .before .if1 .left) in
-    sym (ap length (take-at y (drop 65536 w) 65536 ly) ∙ ly)
+    sym (length-take-le _ (y ++ drop 65536 w) (simp length-append (omega (arith, ly))))
 
 used-requires : tie.Need-used-requires
 used-requires c κs = search needs
