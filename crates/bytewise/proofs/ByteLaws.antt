@@ -12,8 +12,10 @@ use Rattle.number.specs.Number.{numberAt}
 use Rattle.text.specs.Read.{Read, _>>=_, readNumber}
 use Rattle.text.specs.Measured.{Reads}
 use Rattle.text.proofs.ReadLaws.{readNumber-some}
-use Rattle.scalar.specs.Scalars.{narrowed}
-use Rattle.scalar.specs.declared.Narrowed.the-variants.{To, OutOfRange}
+use Rattle.scalar.specs.Scalars.{contentOf}
+use Rattle.scalar.specs.declared.Scalar.{Scalar}
+use Rattle.scalar.specs.declared.Cast.{Cast}
+use Rattle.scalar.specs.declared.Cast.the-variants.{To, Unsuited, OutOfRange}
 use Rattle.frame.specs.Kind
 use Rattle.frame.specs.Tree.{Value, kindOf, number, items, peel}
 use Rattle.frame.specs.Readers.{readMany, readList}
@@ -25,10 +27,9 @@ use Rattle.frame.proofs.ValueNodes.{value-content}
 use Rattle.buffer.specs.Built.{Built, Wrote}
 use Rattle.buffer.specs.declared.Answer.{Answer}
 use Rattle.buffer.specs.declared.Answer.the-variants as A
-use Rattle.types.specs.Types.{inByte, intByte, try-u8, byteItems, resolve-bytes}
-use Rattle.types.specs.Contract.{encoded, onRead}
+use Rattle.types.specs.Types.{resolve-int, inByte, intByte, try-u8, byteItems, resolve-bytes}
+use Rattle.types.specs.Contract.{encoded, onRead, valueOf, castOutcome}
 use Rattle.types.proofs.NodeLaws.{wrote-ok, wrote-stop}
-use Rattle.types.proofs.ScalarLaws.{int-kept, int-of-long, int-past, int-refused}
 use Rattle.types.proofs.PartLaws.{content-Bytes, content-Array, encode-counted, built-counted}
 use Rattle.value.proofs.NodeLaws.{arrayOf}
 use Rattle.bytewise.specs.Items.{byteOf, listBytes, itemsAsBytes}
@@ -47,21 +48,22 @@ past-byte n h = rw (lt-leb n 255 h)
 
 -- ---- a value as an Int
 
-pub int-is : (n : ℕ) → intByte (Value.Scalar Kind.Int n) ≡ inByte n
-unfolding intByte number after
-int-is n = rw (int-kept n)
+module _ (w : Value) (c : Cast) (e : castOutcome c ≡ resolve-int w) where
+  as-byte : intByte w ≡ after (castOutcome c) (λ n. inByte (number n))
+  unfolding intByte
+  as-byte = ap (λ x. after x (λ n. inByte (number n))) (sym e)
 
-pub long-is : (n x : ℕ) → narrowed n ≡ To x → intByte (Value.Scalar Kind.Long n) ≡ inByte x
-unfolding intByte number after
-long-is n x e = rw (int-of-long n x e)
+  pub int-is : (s : Scalar) → c ≡ To s → intByte w ≡ inByte (contentOf s)
+  unfolding after castOutcome valueOf number
+  int-is s h = as-byte ∙ ap (λ (x : Cast). after (castOutcome x) (λ n. inByte (number n))) h
 
-pub long-past : (n : ℕ) → narrowed n ≡ OutOfRange → intByte (Value.Scalar Kind.Long n) ≡ stop 7
-unfolding intByte after
-long-past n e = rw (int-past n e)
+  pub no-int : c ≡ Unsuited → intByte w ≡ stop 6
+  unfolding after castOutcome
+  no-int h = as-byte ∙ ap (λ (x : Cast). after (castOutcome x) (λ n. inByte (number n))) h
 
-pub no-int : (k : ℕ) → (k ≡ 2 → ⊥) → (k ≡ 3 → ⊥) → (w : Value) → kindOf w ≡ k → intByte w ≡ stop 6
-unfolding intByte after
-no-int k f g w e = rw (int-refused k f g w e)
+  pub past-int : c ≡ OutOfRange → intByte w ≡ stop 7
+  unfolding after castOutcome
+  past-int h = as-byte ∙ ap (λ (x : Cast). after (castOutcome x) (λ n. inByte (number n))) h
 
 -- the answer for a value that was read
 pub byte-answer : (f : Value → Result ℕ) (x : Read Value) (w : Value) (r : List ℕ) (y : Result ℕ) (b : Byte) → x ≡ some (w, r) → f w ≡ y → b ≡ byteOf y → b ≡ byteOf (onRead f x)

@@ -1,8 +1,9 @@
 // resolve_bytes and try_u8 of src/types.rs: a Bytes is kept, a String gives its bytes, and an Array of numbers gives a byte for
 // each item.
 use buffer::Answer;
-use scalar::Narrowed;
+use scalar::Cast;
 use types::octets;
+use types::scalars;
 ghost use mathlib.Core.Path.{_≡_};
 ghost use Rattle.text.specs.Measured.{Reads};
 ghost use Rattle.frame.specs.Readers.{readList};
@@ -18,8 +19,8 @@ pub enum Byte {
     Refused(u8),
 }
 
-// The number of an Int as a byte.
-fn in_byte(n: u32) -> Byte
+// The content of an Int as a byte.
+fn in_byte(n: u64) -> Byte
     ensures { λ r. ⌜ r ≡ byteOf (inByte n) ⌝ }
 {
     if n <= 255 {
@@ -33,17 +34,11 @@ fn int_byte(v: &[u8], depth: usize) -> Byte
     requires { ⌜ Reads (readValue depth (now v)) ⌝ }
     ensures { λ r. ⌜ r ≡ byteOf (onRead intByte (readValue depth (now (v .entry)))) ⌝ }
 {
-    let k = v[0];
-    if k == 2 {
-        return in_byte(number::read4(v, 1));
+    match scalars::as_int(v, depth) {
+        Cast::To(s) => in_byte(s.content()),
+        Cast::Unsuited => Byte::Refused(6),
+        Cast::OutOfRange => Byte::Refused(7),
     }
-    if k == 3 {
-        match scalar::long_to_int(number::read8(v, 1)) {
-            Narrowed::To(n) => return in_byte(n),
-            Narrowed::OutOfRange => return Byte::Refused(7),
-        }
-    }
-    Byte::Refused(6)
 }
 
 // An item as a byte: of a Union, what it holds.

@@ -253,11 +253,11 @@ decimal-okay p s n v h =
 -- ---- symbols
 
 position-found : (s : Text) (ss : List Text) → Found (λ i. T (symbolAt ss i s)) (Types.position s ss)
-unfolding Types.position symbolAt Types.later
+unfolding Types.position symbolAt Types.next-place
 position-found s [] = tt
 position-found s (t ∷ ts) = go (same t s) refl (Types.position s ts) (position-found s ts)
   where
-    go : (b : Bool) → same t s ≡ b → (o : Option ℕ) → Found (λ i. T (symbolAt ts i s)) o → Found (λ i. T (symbolAt (t ∷ ts) i s)) (if b then some 0 else Types.later o)
+    go : (b : Bool) → same t s ≡ b → (o : Option ℕ) → Found (λ i. T (symbolAt ts i s)) o → Found (λ i. T (symbolAt (t ∷ ts) i s)) (if b then some 0 else Types.next-place o)
     go true e o p = subst (λ (b : Bool). T b) (sym e) tt
     go false e none p = tt
     go false e (some i) p = p
@@ -611,7 +611,7 @@ unfolding Union.firstThatResolves resolve
 first-is-0 a b x e = rw e
 
 first-is-1 : (a b : Schema) (x : Value) → accepted (resolve a x) ≡ false → accepted (resolve b x) ≡ true → Union.firstThatResolves (trials (pair a b) x) ≡ some 1
-unfolding Union.firstThatResolves resolve Types.later
+unfolding Union.firstThatResolves resolve Types.next-place
 first-is-1 a b x e f = rw (e, f)
 
 accepts : (s : Schema) (x : Value) → resolve s x ≡ ok x → accepted (resolve s x) ≡ true

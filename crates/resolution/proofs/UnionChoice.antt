@@ -16,7 +16,7 @@ use Rattle.frame.specs.Tree.{Value, Schema, Variants, kindOf, schemaKind, peel}
 use Rattle.frame.specs.ValueFrame.{encodeValue}
 use Rattle.frame.specs.SchemaFrame as frame
 use Rattle.frame.specs.Sound.{schemaSound, variantsSound, kindsSound, positionsSound}
-use Rattle.types.specs.Types.{Outcome, later}
+use Rattle.types.specs.Types.{Outcome, next-place}
 use Rattle.types.specs.Contract.{encoded}
 use Rattle.buffer.specs.Built.{Built, Wrote}
 use Rattle.buffer.specs.declared.Answer.{Answer}
@@ -162,17 +162,17 @@ module _ (ts : List Trial) (i : ℕ) where
 -- ---- the first that resolves
 
 pub first-none : (ts : List Trial) → ((j : ℕ) → j < length ts → accepted (getD ts j noTrial .outcome) ≡ false) → firstThatResolves ts ≡ none
-unfolding firstThatResolves later
+unfolding firstThatResolves next-place
 first-none [] h = refl
 first-none (t ∷ ts) h =
-    ap (λ b. if b then some 0 else later (firstThatResolves ts)) (h 0 (omega arith)) ∙ ap later (first-none ts (λ j l. h (suc j) (omega arith)))
+    ap (λ b. if b then some 0 else next-place (firstThatResolves ts)) (h 0 (omega arith)) ∙ ap next-place (first-none ts (λ j l. h (suc j) (omega arith)))
 
 pub first-at : (ts : List Trial) (i : ℕ) → i < length ts → ((j : ℕ) → j < i → accepted (getD ts j noTrial .outcome) ≡ false) → accepted (getD ts i noTrial .outcome) ≡ true → firstThatResolves ts ≡ some i
-unfolding firstThatResolves later
+unfolding firstThatResolves next-place
 first-at [] i l h e = absurd (omega arith)
-first-at (t ∷ ts) zero l h e = ap (λ b. if b then some 0 else later (firstThatResolves ts)) e
+first-at (t ∷ ts) zero l h e = ap (λ b. if b then some 0 else next-place (firstThatResolves ts)) e
 first-at (t ∷ ts) (suc i) l h e =
-    ap (λ b. if b then some 0 else later (firstThatResolves ts)) (h 0 (omega arith)) ∙ ap later (first-at ts i (omega arith) (λ j m. h (suc j) (omega arith)) e)
+    ap (λ b. if b then some 0 else next-place (firstThatResolves ts)) (h 0 (omega arith)) ∙ ap next-place (first-at ts i (omega arith) (λ j m. h (suc j) (omega arith)) e)
 
 -- ---- the first named one that resolves
 

@@ -12,7 +12,7 @@ ghost use mathlib.Core.Bool.{not};
 ghost use Prim.Native.Nat.{ℕ};
 ghost use Rattle.text.specs.Measured.{Reads};
 ghost use Rattle.text.specs.Text.{Text};
-ghost use Rattle.scalar.specs.Conversion.{inInt, finiteDouble};
+ghost use Rattle.scalar.specs.Conversion.{inInt};
 ghost use Rattle.frame.specs.Tree.{Value};
 ghost use Rattle.frame.specs.Readers.{readList, readOption};
 ghost use Rattle.frame.specs.ValueFrame.{itemsOf, entriesOf, readEntry, readValue};
@@ -29,13 +29,6 @@ fn outside_int(n: u64) -> bool
     n < 18446744071562067968
 }
 
-// Whether the bits are those of a finite Double.
-fn is_finite(bits: u64) -> bool
-    ensures { λ r. ⌜ r ≡ finiteDouble bits ⌝ }
-{
-    bits % 9223372036854775808 < 9218868437227405312
-}
-
 // Whether a value is of the kinds that a default may have.
 fn default_kinds(s: &[u8], depth: usize) -> bool
     requires { ⌜ Reads (readValue depth (now s)) ⌝ }
@@ -46,7 +39,7 @@ fn default_kinds(s: &[u8], depth: usize) -> bool
         return outside_int(read8(s, 1));
     }
     if kind == 5 {
-        return is_finite(read8(s, 1));
+        return scalar::finite_double(read8(s, 1));
     }
     if kind == 7 {
         return true;

@@ -1,71 +1,61 @@
--- An Int is taken by its number, a Long by the Int that it is, and any other kind is refused.
-use native.Mathlib.Omega.{arith}
+-- What the node is as an Int is a byte by its content, and what is no Int is refused.
 use Prim.Native.Nat.{ℕ}
-use mathlib.Core.Path.{refl, sym, ap, _∙_}
-use Rattle.number.proofs.Laws.{getD-allBytes}
+use mathlib.Core.Path.{refl, ap, _∙_}
 use Rattle.text.specs.Measured.{Reads}
-use Rattle.frame.proofs.ValueNodes.{value-there, value-kind}
-use Rattle.scalar.specs.Scalars.{narrowed}
-use Rattle.types.proofs.NodeLaws.{wide-node}
-use Rattle.types.proofs.ScalarLaws.{int-content, long-content}
-use Rattle.bytewise.specs.Items.{byteOf}
 use Rattle.types.specs.Types.{inByte, intByte}
-use Rattle.bytewise.proofs.ByteLaws.{byte-answer, int-is, long-is, long-past, no-int}
+use Rattle.bytewise.specs.Items.{byteOf}
+use Rattle.bytewise.proofs.ByteLaws.{byte-answer, int-is, no-int, past-int}
 use borrow.Author.Needs.{needs}
 use Rattle.bytewise.proofs.int_byte.Statement.{statement}
 use Rattle.bytewise.proofs.int_byte.Tie as tie
 
-shared-slice-read-k : tie.Need-shared-slice-read-k
-shared-slice-read-k c = value-there _ _ (c .before .before .pre) .1
+as-int-requires : tie.Need-as-int-requires
+as-int-requires c κs = search needs
 
-read4-requires : tie.Need-read4-requires
-read4-requires c κs = wide-node _ _ (c .before .before .before .pre) 2 4 int-content (c .if1 .taken) .0
+enum-known-s : tie.Need-enum-known-s
+enum-known-s c = search needs
+
+content-requires : tie.Need-content-requires
+content-requires c κs = search needs
 
 in-byte-requires : tie.Need-in-byte-requires
 in-byte-requires c κs = search needs
 
-returns : tie.Need-returns
-returns c = byte-answer intByte _ _ _ _ _ (wide-node _ _ (c .before .before .before .before .before .pre) 2 4 int-content (c .before .before .if1 .taken) .1) (int-is _) (c .in-byte .ensures ∙ ap (λ (n : ℕ). byteOf (inByte n)) (c .before .read4 .ensures))
-
-read8-requires : tie.Need-read8-requires
-read8-requires c κs = wide-node _ _ (c .before .before .before .before .pre) 3 8 long-content (c .if2 .taken) .0
-
-long-to-int-requires : tie.Need-long-to-int-requires
-long-to-int-requires c κs = search needs
-
-enum-known-n : tie.Need-enum-known-n
-enum-known-n c = search needs
-
-in-byte-requires-2 : tie.Need-in-byte-requires-2
-in-byte-requires-2 c κs = search needs
-
-returns-2 : tie.Need-returns-2
-returns-2 c = byte-answer intByte _ _ _ _ _ (wide-node _ _ (c .before .before .before .before .before .before .before .before .before .before .pre) 3 8 long-content (c .before .before .before .before .before .before .if2 .taken) .1) (long-is _ _ (ap narrowed (sym (c .before .before .before .before .before .read8 .ensures)) ∙ sym (c .before .before .before .before .long-to-int .ensures) ∙ c .before .before .n .given .1)) (c .in-byte2 .ensures)
-
 enum-told : tie.Need-enum-told
 enum-told c = search needs
 
-returns-3 : tie.Need-returns-3
-unfolding byteOf
-returns-3 c = byte-answer intByte _ _ _ _ _ (wide-node _ _ (c .before .before .before .before .before .before .before .before .pre) 3 8 long-content (c .before .before .before .before .if2 .taken) .1) (long-past _ (ap narrowed (sym (c .before .before .before .read8 .ensures)) ∙ sym (c .before .before .long-to-int .ensures) ∙ c .enum-told .given .1)) refl
+enum-told-2 : tie.Need-enum-told-2
+enum-told-2 c = search needs
 
-returns-4 : tie.Need-returns-4
+returns : tie.Need-returns
+unfolding Reads
+returns c =
+    let p = c .before .before .before .before .before .before .before .pre in
+    byte-answer intByte _ _ _ _ _ (p .1 .1) (int-is _ _ (c .before .before .before .before .before .as-int .ensures _ _ (p .1 .1)) _ (c .before .before .before .s .given .1))
+    (c .in-byte .ensures ∙ ap (λ (n : ℕ). byteOf (inByte n)) (c .before .content .ensures))
+
+returns-2 : tie.Need-returns-2
 unfolding byteOf Reads
-returns-4 c = byte-answer intByte _ _ _ _ _ (c .before .before .before .before .pre .1 .1) (no-int _ (c .before .if1 .left) (c .if2 .left) _ (value-kind _ _ (getD-allBytes _ (λ i. omega (arith, c .before .before .before .shared-slice-known .given i))) _ _ (c .before .before .before .before .pre .1 .1))) refl
+returns-2 c =
+    let p = c .before .before .before .before .pre in
+    byte-answer intByte _ _ _ _ _ (p .1 .1) (no-int _ _ (c .before .before .as-int .ensures _ _ (p .1 .1)) (c .enum-told .given .1)) refl
+
+returns-3 : tie.Need-returns-3
+unfolding byteOf Reads
+returns-3 c =
+    let p = c .before .before .before .before .pre in
+    byte-answer intByte _ _ _ _ _ (p .1 .1) (past-int _ _ (c .before .before .as-int .ensures _ _ (p .1 .1)) (c .enum-told2 .given .1)) refl
 
 pub int-byte-spec : {M : Type 1} → statement M
 int-byte-spec =
     tie.close
     (tie.spec
-    shared-slice-read-k
-    read4-requires
+    as-int-requires
+    enum-known-s
+    content-requires
     in-byte-requires
-    returns
-    read8-requires
-    long-to-int-requires
-    enum-known-n
-    in-byte-requires-2
-    returns-2
     enum-told
-    returns-3
-    returns-4)
+    enum-told-2
+    returns
+    returns-2
+    returns-3)

@@ -27,7 +27,7 @@ use Rattle.schema_default.proofs.default.items_kinds.Kinds as items-kin
 use Rattle.schema_default.proofs.default.+default_kinds+entries_kinds+items_kinds.Lts-items_kinds as items-kinds-lts
 use Rattle.number.proofs.read2.Reads as read2-reads
 use Rattle.number.proofs.read8.Reads as read8-reads
-use Rattle.schema_default.proofs.default.is_finite.Reads as is-finite-reads
+use Rattle.scalar.proofs.finite_double.Reads as finite-double-reads
 use Rattle.schema_default.proofs.default.outside_int.Reads as outside-int-reads
 use Rattle.frame.proofs.both.Reads as both-reads
 use Rattle.text.proofs.content.Reads as content-reads
@@ -77,7 +77,7 @@ items-kinds-below t =
     and 1 items-kinds-kinds.ps (falls 1 items-kinds-kinds.ps _<_ μ-items-kinds t) items-kinds.Pre
 
 abbrev default-kinds-claims : ℕ → default-kinds-lts.Claims
-default-kinds-claims t = (read8-reads.Asked, read8-reads.Learnt, outside-int-reads.Asked, outside-int-reads.Learnt, is-finite-reads.Asked, is-finite-reads.Learnt, items-kinds-below t, items-kinds.Post, entries-kinds-below t, entries-kinds.Post)
+default-kinds-claims t = (read8-reads.Asked, read8-reads.Learnt, outside-int-reads.Asked, outside-int-reads.Learnt, finite-double-reads.Asked, finite-double-reads.Learnt, items-kinds-below t, items-kinds.Post, entries-kinds-below t, entries-kinds.Post)
 
 abbrev entries-kinds-claims : ℕ → entries-kinds-lts.Claims
 entries-kinds-claims t = (read2-reads.Asked, read2-reads.Learnt, content-reads.Asked, content-reads.Learnt, default-kinds-below t, default-kinds.Post, both-reads.Asked, both-reads.Learnt, value-len-reads.Asked, value-len-reads.Learnt)
@@ -98,7 +98,7 @@ default-kinds-read8-requires-2 : (t : ℕ) → default-kinds-lts.Need-read8-requ
 default-kinds-read8-requires-2 t c κs = double-there _ _ (c .before .before .before .before .pre .1) (c .if2 .taken)
 
 default-kinds-returns-2 : (t : ℕ) → default-kinds-lts.Need-returns-2 (default-kinds-claims t) (default-kinds-at t) default-kinds.Post
-default-kinds-returns-2 t c = double-says _ _ (c .before .before .before .before .before .before .pre .1) (c .before .before .if2 .taken) _ (c .is-finite .ensures ∙ ap finiteDouble (c .before .read82 .ensures))
+default-kinds-returns-2 t c = double-says _ _ (c .before .before .before .before .before .before .pre .1) (c .before .before .if2 .taken) _ (c .finite-double .ensures ∙ ap finiteDouble (c .before .read82 .ensures))
 
 default-kinds-returns-3 : (t : ℕ) → default-kinds-lts.Need-returns-3 (default-kinds-claims t) (default-kinds-at t) default-kinds.Post
 default-kinds-returns-3 t c = string-says _ _ (c .before .before .before .before .before .pre .1) (c .if3 .taken)
