@@ -32,11 +32,12 @@ use Rattle.buffer.specs.declared.Answer.the-variants.{Accepted, Refused}
 use Rattle.avro.specs.Resolve.{first, resolve, startDefault}
 use Rattle.avro.specs.Defaults.{defaultsShort, variantDefaultsShort, shortDefault, shortStart}
 use Rattle.frame.proofs.SoundLaws.{sound-union, sound-variant}
-use Rattle.resolution.specs.Contract.{Ready, ReadyDefault, nodeBytes, peeledBytes, defaultBytes}
+use Rattle.resolution.specs.Contract.{Ready, ReadyDefault, nodeBytes, defaultBytes}
+use Rattle.leaf.specs.Leaf.{peeledBytes}
 use Rattle.avro.proofs.Held.{held-resolve}
 use Rattle.resolution.proofs.Pieces.{both-some}
 use Rattle.resolution.proofs.NodeBytes.{node-peel}
-use Rattle.resolution.proofs.UnionReading.{union-parts}
+use Rattle.variants.proofs.UnionReading.{union-parts}
 
 -- ---- fields that are no union
 

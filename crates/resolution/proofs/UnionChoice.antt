@@ -11,6 +11,7 @@ use lib.Ieee.Fits.{and-l, and-r}
 use borrow.Author.Tests.{eq-eqb, ne-eqb, lt-ltb, le-ltb, ltb-true, ltb-false, eqb-true}
 use Rattle.base.specs.Base.{if_then_else_, ok, stop, after, accepted}
 use Rattle.number.specs.Number.{bytesOf}
+use Rattle.text.specs.Read.{Read}
 use Rattle.frame.specs.Kind
 use Rattle.frame.specs.Tree.{Value, Schema, Variants, kindOf, schemaKind, peel}
 use Rattle.frame.specs.ValueFrame.{encodeValue}
@@ -25,11 +26,22 @@ use Rattle.avro.specs.Union.{Trial, noTrial, schema-to-base-schemakind, unnamed
 use Rattle.avro.specs.Resolve.{resolve, trials}
 use Rattle.avro.specs.Defaults.{defaultsShort, variantDefaultsShort}
 use Rattle.frame.proofs.SoundLaws.{sound-variant}
-use Rattle.resolution.specs.Contract.{resolvePeeled, peeledBytes, unionVariants, kindTable, namedTable, foundOf}
-use Rattle.resolution.specs.UnionContract.{trialsOf, trialAt, countOf, Tries, FailedAt, isAt, tableOf, namedOf, Stands, TriedFor, soonerOf, NamedAfter, TableFirst}
+use Rattle.leaf.specs.Leaf.{resolvePeeled, peeledBytes}
+use Rattle.variants.specs.Ways.{unionVariants, kindTable, namedTable, foundOf, countOf, isAt, soonerOf}
+use Rattle.resolution.specs.UnionContract.{OnBoth, trialsOf, trialAt, Tries, FailedAt, tableOf, namedOf, Stands, TriedFor, NamedAfter, TableFirst}
 use Rattle.find.specs.declared.Found.{Found}
-use Rattle.resolution.specs.declared.Tried.{Tried}
-use Rattle.resolution.specs.declared.Choice.{Choice}
+use Rattle.variants.specs.declared.Tried.{Tried}
+use Rattle.variants.specs.declared.Choice.{Choice}
+
+-- ---- what was read
+
+pub on-both : {A B : Type 0} (P : A → B → Type 0) (x : Read A) (y : Read B) (a : A) (r : List ℕ) (b : B) (u : List ℕ) → x ≡ some (a, r) → y ≡ some (b, u) → OnBoth P x y → P a b
+unfolding OnBoth
+on-both P x y a r b u e f h = rw (e, f) at h
+
+pub on-both-of : {A B : Type 0} (P : A → B → Type 0) (x : Read A) (y : Read B) (a : A) (r : List ℕ) (b : B) (u : List ℕ) → x ≡ some (a, r) → y ≡ some (b, u) → P a b → OnBoth P x y
+unfolding OnBoth
+on-both-of P x y a r b u e f h = rw (e, f) h
 
 -- ---- the trials, and soundness, variant by variant
 

@@ -18,9 +18,11 @@ use Rattle.frame.proofs.ValueNodes.{value-there}
 use Rattle.frame.proofs.SchemaNodes.{schema-there}
 use Rattle.buffer.proofs.BuiltLaws.{built-small}
 use Rattle.types.specs.Contract.{onBoth}
-use Rattle.resolution.specs.Contract.{nodeBytes, peeledBytes, entryBytes}
+use Rattle.resolution.specs.Contract.{nodeBytes, entryBytes}
+use Rattle.leaf.specs.Leaf.{peeledBytes}
 use Rattle.resolution.proofs.ReadParts.{value-array, value-map, ready-reads}
-use Rattle.resolution.proofs.Pieces.{wrote-eq, accepted-small, both-first, both-second, onFirst, Loop, going-start, loop-first, loop-small, loop-end, loop-no, loop-add, loop-within, loop-step, wrote-last, wrote-last-no}
+use Rattle.leaf.proofs.LeafSchemas.{wrote-eq}
+use Rattle.resolution.proofs.Pieces.{accepted-small, both-first, both-second, onFirst, Loop, going-start, loop-first, loop-small, loop-end, loop-no, loop-add, loop-within, loop-step, wrote-last, wrote-last-no}
 use Rattle.resolution.proofs.NodeBytes.{both-peel, peel-reads, ready-array, ready-map, array-no, array-others, array-start}
 use Rattle.resolution.proofs.ChildBytes.{map-no, map-others, map-start, fields-long, record-no}
 use Rattle.find.specs.Find.{Keyed}
@@ -29,8 +31,9 @@ use Rattle.resolution.proofs.DefaultBytes.{default-value, default-plain
 use borrow.Author.Tests.{not-true, not-false}
 use Rattle.resolution.proofs.FieldLoop.{FieldLoop, fields-begin, fields-ready, fields-step}
 use Rattle.text.specs.Measured.{Reads}
-use Rattle.resolution.specs.UnionContract.{OnBoth, Passed}
-use Rattle.resolution.proofs.UnionReading.{passed-step}
+use Rattle.resolution.specs.UnionContract.{OnBoth}
+use Rattle.variants.specs.Ways.{Passed}
+use Rattle.variants.proofs.UnionReading.{passed-step}
 use Rattle.resolution.proofs.UnionCycle.{NoneBelow, NoneTaken, wrote-sixth, count-small, ready-long, ready-deep, ready-count, ready-below, below-ready, ready-start, variant-ready, variant-reads, variant-accepted, variant-refused, kind-tried, try-other, try-one, naming-start, naming-end, naming-below, naming-step, naming-hit, naming-inside, naming-before, before-inside, try-before, again-table, again-inside, again-named, again-one, table-yet, union-yet, searching-start, searching-end, searching-step, searching-hit, stands-below, any-found, any-none, table-count, table-accepted, table-untried, table-named, table-any, table-other, named-wanted, named-unwanted, union-table, union-index, union-named, union-first}
 use borrow.Fn.Kinds.{In}
 use borrow.Fn.PlainCycle.{Measures, is, falls, and}
@@ -101,22 +104,22 @@ use Rattle.field.proofs.field_at.Reads as field-at-reads
 use Rattle.value.proofs.entry_len.Reads as entry-len-reads
 use Rattle.find.proofs.peel.Reads as peel-reads
 use Rattle.number.proofs.read2.Reads as read2-reads
-use Rattle.resolution.proofs.leaf.resolve_leaf.Reads as resolve-leaf-reads
+use Rattle.leaf.proofs.resolve_leaf.Reads as resolve-leaf-reads
 use Rattle.find.proofs.find_in.Reads as find-in-reads
 use Rattle.find.proofs.mark.Reads as mark-reads
-use Rattle.resolution.proofs.union.base_kind.Reads as base-kind-reads
-use Rattle.resolution.proofs.union.is_at.Reads as is-at-reads
-use Rattle.resolution.proofs.union.is_tried.Reads as is-tried-reads
-use Rattle.resolution.proofs.union.named_at.Reads as named-at-reads
-use Rattle.resolution.proofs.union.named_kind.Reads as named-kind-reads
-use Rattle.resolution.proofs.union.put_index.Reads as put-index-reads
-use Rattle.resolution.proofs.union.sooner.Reads as sooner-reads
-use Rattle.resolution.proofs.union.stands_in.Reads as stands-in-reads
-use Rattle.resolution.proofs.union.table_position.Reads as table-position-reads
-use Rattle.resolution.proofs.union.unnamed_kind.Reads as unnamed-kind-reads
-use Rattle.resolution.proofs.union.variant_at.Reads as variant-at-reads
-use Rattle.resolution.proofs.union.was_named.Reads as was-named-reads
-use Rattle.resolution.proofs.reach.field_reach.Reads as field-reach-reads
+use Rattle.variants.proofs.base_kind.Reads as base-kind-reads
+use Rattle.variants.proofs.is_at.Reads as is-at-reads
+use Rattle.variants.proofs.is_tried.Reads as is-tried-reads
+use Rattle.variants.proofs.named_at.Reads as named-at-reads
+use Rattle.variants.proofs.named_kind.Reads as named-kind-reads
+use Rattle.variants.proofs.put_index.Reads as put-index-reads
+use Rattle.variants.proofs.sooner.Reads as sooner-reads
+use Rattle.variants.proofs.stands_in.Reads as stands-in-reads
+use Rattle.variants.proofs.table_position.Reads as table-position-reads
+use Rattle.variants.proofs.unnamed_kind.Reads as unnamed-kind-reads
+use Rattle.variants.proofs.variant_at.Reads as variant-at-reads
+use Rattle.variants.proofs.was_named.Reads as was-named-reads
+use Rattle.field.proofs.field_reach.Reads as field-reach-reads
 use Rattle.schema.proofs.schema_len.Reads as schema-len-reads
 use Rattle.text.proofs.content.Reads as content-reads
 use Rattle.value.proofs.value_len.Reads as value-len-reads
@@ -1264,7 +1267,7 @@ resolve-node-part-resolve-leaf-end : (t : ℕ) → resolve-node-lts.Need-part-re
 resolve-node-part-resolve-leaf-end t c = search needs
 
 resolve-node-resolve-leaf-requires : (t : ℕ) → resolve-node-lts.Need-resolve-leaf-requires (peel-reads.Asked, peel-reads.Learnt, resolve-array-below t, resolve-array.Post, resolve-map-below t, resolve-map.Post, resolve-union-below t, resolve-union.Post, resolve-record-below t, resolve-record.Post, resolve-leaf-reads.Asked, resolve-leaf-reads.Learnt) (resolve-node-at t) resolve-node.Post
-resolve-node-resolve-leaf-requires t c κs = (c .before .before .before .before .before .before .before .before .before .before .before .pre .1 .0, rw part-to-end (peel-reads _ _ (c .before .before .before .before .before .before .before .peel .ensures .1) (c .before .before .before .before .before .before .before .before .before .before .before .pre .1 .1)), record { no-array = c .before .before .before .before .before .if1 .left; no-map = c .before .before .before .before .if2 .left; no-union = c .before .before .before .if3 .left; no-fields = c .before .before .if4 .left })
+resolve-node-resolve-leaf-requires t c κs = (ready-reads _ _ (c .before .before .before .before .before .before .before .before .before .before .before .pre .1 .0), rw part-to-end (peel-reads _ _ (c .before .before .before .before .before .before .before .peel .ensures .1) (c .before .before .before .before .before .before .before .before .before .before .before .pre .1 .1)), record { no-array = c .before .before .before .before .before .if1 .left; no-map = c .before .before .before .before .if2 .left; no-union = c .before .before .before .if3 .left; no-fields = c .before .before .if4 .left })
 
 resolve-node-same-length-5 : (t : ℕ) → resolve-node-lts.Need-same-length-5 (peel-reads.Asked, peel-reads.Learnt, resolve-array-below t, resolve-array.Post, resolve-map-below t, resolve-map.Post, resolve-union-below t, resolve-union.Post, resolve-record-below t, resolve-record.Post, resolve-leaf-reads.Asked, resolve-leaf-reads.Learnt) (resolve-node-at t) resolve-node.Post
 resolve-node-same-length-5 t c = search needs
