@@ -9,7 +9,7 @@ use lib.Dec.{T, leb, eqb}
 use lib.ListN.{length, getD, drop, length-drop}
 use lib.Seq.{drop-drop}
 use lib.Ieee.Fits.{and-l, and-r}
-use borrow.Author.Tests.{le-leb, lt-leb, leb-true, leb-false, eq-eqb, ne-eqb}
+use borrow.Author.Tests.{le-leb, lt-leb, leb-true, leb-false, ne-eqb}
 use Rattle.base.specs.Base.{ok, stop, after}
 use Rattle.number.specs.Number.{bytesOf}
 use Rattle.frame.specs.Tree.{Value, Schema, Variants, variant, is, kindOf, peel, schemaKind}
@@ -24,8 +24,9 @@ use Rattle.types.specs.Contract.{encoded, onBoth}
 use Rattle.buffer.specs.Built.{Built, Wrote}
 use Rattle.buffer.specs.declared.Answer.the-variants.{Accepted, Refused}
 use Rattle.schema.specs.Parts.{fieldSound}
-use Rattle.avro.specs.Resolve.{resolve, startDefault, first}
+use Rattle.avro.specs.Resolve.{resolve, startDefault}
 use Rattle.avro.specs.Defaults.{defaultsShort, shortDefault, shortStart}
+use Rattle.avro.proofs.WalkSentences.{start-plain, start-tried, start-null}
 use Rattle.field.specs.Parts.{FieldParts, DefaultAt}
 use Rattle.resolution.specs.Contract.{Ready, nodeBytes}
 use Rattle.defaults.specs.Shortness.{SoundRead, testRead, ShortLen, fieldShort}
@@ -34,7 +35,7 @@ use Rattle.defaults.proofs.SoundParts.{test-some, zero-fails, some-pass
 use Rattle.resolution.proofs.ReadParts.{ready-reads}
 use Rattle.resolution.proofs.Pieces.{both-some}
 use Rattle.resolution.proofs.FieldBytes.{Given, default-given, default-none}
-use Rattle.resolution.proofs.DefaultBytes.{start-plain, first-variant, first-kind}
+use Rattle.resolution.proofs.DefaultBytes.{first-variant, first-kind}
 
 pub ready-there : (d : ℕ) (s : List ℕ) → Ready d s → (0 < d) × (0 < length s)
 ready-there d s w = schema-there d s (ready-reads d s w)
@@ -60,16 +61,10 @@ short-alone v h = ap (λ b. not b || leb (length (encodeValue (peel v))) 4096) (
 start-alone : (t : Schema) (v : Value) → (schemaKind t ≡ 10 → ⊥) → T (defaultKinds v) → shortStart (startDefault t v) ≡ true
 start-alone t v u h = ap shortStart (start-plain t v u) ∙ short-alone v h
 
--- a Null variant gives Null
-start-null : (t : Schema) (vs : Variants) (ks : List (ℕ × ℕ)) (ns : List ℕ) (v : Value) → schemaKind t ≡ 0 → shortStart (startDefault (Schema.Union (variant t vs) ks ns) v) ≡ true
-unfolding startDefault first after shortStart kindOf peel encodeValue writeScalar table bytesOf
-start-null t vs ks ns v e = rw (eq-eqb (schemaKind t) 0 e)
-
--- any other variant gives its outcome
-start-tried : (t : Schema) (vs : Variants) (ks : List (ℕ × ℕ)) (ns : List ℕ) (v : Value) → (schemaKind t ≡ 0 → ⊥)
-    → startDefault (Schema.Union (variant t vs) ks ns) v ≡ after (resolve t v) (λ r. ok (Value.Union 0 r))
-unfolding startDefault first
-start-tried t vs ks ns v e = rw (ne-eqb (schemaKind t) 0 e)
+-- Null is short
+short-null : (t : Schema) (vs : Variants) (ks : List (ℕ × ℕ)) (ns : List ℕ) (v : Value) → schemaKind t ≡ 0 → shortStart (startDefault (Schema.Union (variant t vs) ks ns) v) ≡ true
+unfolding shortStart kindOf peel encodeValue writeScalar table bytesOf
+short-null t vs ks ns v e = ap shortStart (start-null t vs ks ns v e)
 
 -- a length that is capped far above 4,096
 capped : (n m : ℕ) → n ≡ min m 65536 → leb n 4096 ≡ leb m 4096
@@ -103,7 +98,7 @@ module _ (d : ℕ) (s v : List ℕ) (w : Ready d s) (g : SoundRead defaultKinds 
     null-short z =
         let f = first-variant d s w e in
         sym (start-is ∙ ap (λ t. shortStart (startDefault t (g .tree))) (f .tree-is)
-        ∙ start-null (f .lead) (f .others) (f .kinds) (f .named) (g .tree) (first-kind d s w e ∙ z))
+        ∙ short-null (f .lead) (f .others) (f .kinds) (f .named) (g .tree) (first-kind d s w e ∙ z))
 
     module _ (z : getD s 3 0 ≡ 0 → ⊥) (o : List ℕ) where
       tried-is : shortStart (onBoth startDefault (readSchema d s) (readValue 16 v)) ≡ shortStart (after (resolve (first-variant d s w e .lead) (g .tree)) (λ r. ok (Value.Union 0 r)))

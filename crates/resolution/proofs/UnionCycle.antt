@@ -28,6 +28,7 @@ use Rattle.buffer.proofs.BuiltLaws.{tail-back, wrote-refused}
 use Rattle.avro.specs.Union.{Trial, noTrial, unnamedKind, namedKind, takeVariant, namedVariant, firstThatResolves, inUnion, mustBeTried, takes, tableLookup}
 use Rattle.avro.specs.Resolve.{trials}
 use Rattle.avro.specs.Defaults.{defaultsShort}
+use Rattle.avro.proofs.UnionLaws.{take-accepted, take-untried, take-refused, first-none, first-at, named-none, named-at, named-missed, named-any, takes-by}
 use Rattle.frame.proofs.SoundLaws.{sound-union}
 use Rattle.resolution.specs.Contract.{Ready, nodeBytes, variantBytes}
 use Rattle.leaf.specs.Leaf.{peeledBytes}
@@ -39,7 +40,7 @@ use Rattle.variants.specs.declared.Choice.{Choice}
 use Rattle.variants.specs.declared.Wanted.{Wanted}
 use Rattle.variants.specs.declared.Positions.{Positions}
 use Rattle.variants.proofs.UnionReading.{Parts, union-parts, parts-variants, parts-kinds, parts-named, parts-length, parts-count, passed-start, passed-first, passed-item, passed-variants, on-read, on-read-of}
-use Rattle.resolution.proofs.UnionChoice.{on-both, on-both-of, trialOf, trial-nth, trials-length, short-union, sound-nth, short-nth, position-below, lookup-below, answer-accepted, indexed, indexed-refused, indexed-accepted, indexed-not, take-accepted, take-untried, take-refused, first-none, first-at, named-none, named-at, named-missed, named-any, takes-by, tries-of, tried-again, tried-other, tried-for, chosen, peeled-chosen, chosen-table, chosen-named, chosen-first, table-first, named-first, neither-first, neither-named}
+use Rattle.resolution.proofs.UnionChoice.{on-both, on-both-of, trialOf, trial-nth, trials-length, short-union, sound-nth, short-nth, position-below, lookup-below, answer-accepted, indexed, indexed-refused, indexed-accepted, indexed-not, tries-of, tried-again, tried-other, tried-for, chosen, peeled-chosen, chosen-table, chosen-named, chosen-first, table-first, named-first, neither-first, neither-named}
 
 -- what was written from the sixth byte on
 sixth-on : (k : ℕ) (o y : List ℕ) → k ≡ min 5 (length o) → length y ≡ length o - k → drop 5 (take k o ++ y) ≡ y

@@ -81,8 +81,8 @@ fn resolve_array(s: &[u8], v: &[u8], out: &mut [u8], ds: usize, dv: usize) -> An
     let mut at = put(out, &v[..3]);
     let mut from: usize = 3;
     while 0 < left {
-        let o = room(at, out.len());
-        match resolve_node(&s[1..], &v[from..], &mut out[o..], ds - 1, dv - 1) {
+        let to = room(at, out.len());
+        match resolve_node(&s[1..], &v[from..], &mut out[to..], ds - 1, dv - 1) {
             Answer::Accepted(m) => {
                 at = joined(at, m);
             }

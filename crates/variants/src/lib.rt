@@ -231,11 +231,11 @@ pub fn is_tried(s: &[u8], depth: usize) -> bool
     requires { ⌜ Reads (readSchema depth (now s)) ⌝ }
     ensures { λ r. ⌜ OnRead (λ t. r ≡ mustBeTried (schemaKind t)) (readSchema depth (now (s .entry))) ⌝ }
 {
-    let k = s[0];
-    if k == 0x09 {
+    let kind = s[0];
+    if kind == 0x09 {
         return true;
     }
-    k == 0x08
+    kind == 0x08
 }
 
 // On both the smaller position, named when equal.
