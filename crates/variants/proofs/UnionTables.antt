@@ -119,5 +119,5 @@ index-before c o x i m r h f e w =
     subst (λ y. Built (indexBytes i ++ c) y r) (ap (λ y. y ++ drop 5 o) t ∙ sym g)
     (built-append (indexBytes i) c x (drop 5 o) 5 m 5 r (built-front (indexBytes i) (drop 5 o) x 5 (omega (arith, index-length i)) g) k (omega (arith, length-drop 5 o)) w e)
 
-pub index-same : (o x : List ℕ) (i : ℕ) → 5 ≤ length o → x ≡ written (set o 0 10) 1 (bytesOf 4 i) → length x ≡ length o
-index-same o x i h f = ap length f ∙ length-written (set o 0 10) (bytesOf 4 i) 1 (omega (arith, length-bytesOf 4 i, length-set o 0 10)) ∙ length-set o 0 10
+pub index-same : (o x : List ℕ) (k i : ℕ) → 5 ≤ length o → x ≡ written (set o 0 k) 1 (bytesOf 4 i) → length x ≡ length o
+index-same o x k i h f = ap length f ∙ length-written (set o 0 k) (bytesOf 4 i) 1 (omega (arith, length-bytesOf 4 i, length-set o 0 k)) ∙ length-set o 0 k

@@ -15,7 +15,7 @@ shared-slice-read-if1 : tie.Need-shared-slice-read-if1
 shared-slice-read-if1 c = decimal-long _ _ (c .before .before .before .before .before .before .pre .0) (c .before .before .before .before .before .before .pre .2)
 
 read2-requires : tie.Need-read2-requires
-read2-requires c κs = sized-long _ _ (c .before .before .before .before .before .before .before .pre .0) (c .before .before .before .before .before .before .before .pre .2) (c .if1 .taken)
+read2-requires c κs = omega (arith, sized-long _ _ (c .before .before .before .before .before .before .before .pre .0) (c .before .before .before .before .before .before .before .pre .2) (c .if1 .taken))
 
 cast-size : tie.Need-cast-size
 cast-size c = search needs

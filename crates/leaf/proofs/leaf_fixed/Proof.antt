@@ -1,11 +1,12 @@
 -- `leaf::leaf_fixed` meets its contract.
+use native.Mathlib.Omega.{arith}
 use Rattle.leaf.proofs.LeafSchemas.{fixed-long, fixed-outcome, wrote-eq}
 use borrow.Author.Needs.{needs}
 use Rattle.leaf.proofs.leaf_fixed.Statement.{statement}
 use Rattle.leaf.proofs.leaf_fixed.Tie as tie
 
 read2-requires : tie.Need-read2-requires
-read2-requires c κs = fixed-long _ _ (c .before .before .before .pre .0) (c .before .before .before .pre .2)
+read2-requires c κs = omega (arith, fixed-long _ _ (c .before .before .before .pre .0) (c .before .before .before .pre .2))
 
 cast-resolve-fixed : tie.Need-cast-resolve-fixed
 cast-resolve-fixed c = search needs

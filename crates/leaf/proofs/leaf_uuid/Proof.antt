@@ -1,4 +1,5 @@
 -- `leaf::leaf_uuid` meets its contract.
+use native.Mathlib.Omega.{arith}
 use Rattle.leaf.proofs.LeafSchemas.{uuid-long, uuid-fixed-long, uuid-bytes-outcome, uuid-string-outcome, uuid-fixed-outcome, wrote-eq}
 use borrow.Author.Needs.{needs}
 use Rattle.leaf.proofs.leaf_uuid.Statement.{statement}
@@ -29,7 +30,7 @@ returns-2 : tie.Need-returns-2
 returns-2 c = wrote-eq _ _ _ _ (uuid-string-outcome _ _ (c .before .before .before .before .before .before .before .before .before .before .before .pre .0) _ (c .before .before .before .before .before .before .before .before .before .before .before .pre .2) (c .before .before .before .before .if2 .taken)) (c .before .before .resolve-uuid-string .ensures)
 
 read2-requires : tie.Need-read2-requires
-read2-requires c κs = uuid-fixed-long _ _ (c .before .before .before .before .before .before .before .pre .0) (c .before .before .before .before .before .before .before .pre .2) (c .before .before .if1 .left) (c .if2 .left)
+read2-requires c κs = omega (arith, uuid-fixed-long _ _ (c .before .before .before .before .before .before .before .pre .0) (c .before .before .before .before .before .before .before .pre .2) (c .before .before .if1 .left) (c .if2 .left))
 
 cast-resolve-uuid-fixed : tie.Need-cast-resolve-uuid-fixed
 cast-resolve-uuid-fixed c = search needs

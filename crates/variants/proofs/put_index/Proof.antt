@@ -20,7 +20,7 @@ put4-requires : tie.Need-put4-requires
 put4-requires c κs = search needs
 
 same-length : tie.Need-same-length
-same-length c = index-same (c .before .before .before .before .before .before .before .args .out .now) _ (c .before .before .before .before .before .before .before .args .i) (c .before .before .before .before .if1 .left) (c .before .before .put4 .ensures)
+same-length c = index-same (c .before .before .before .before .before .before .before .args .out .now) _ _ _ (c .before .before .before .before .if1 .left) (c .before .before .put4 .ensures)
 
 returns-2 : tie.Need-returns-2
 returns-2 c = λ b w. index-before b (c .before .before .before .before .before .before .before .args .out .now) _ (c .before .before .before .before .before .before .before .args .i) (c .before .before .before .before .before .before .before .args .m) _ (c .before .before .before .before .if1 .left) (c .before .before .put4 .ensures) (c .before .before .before .before .before .joined .ensures) w

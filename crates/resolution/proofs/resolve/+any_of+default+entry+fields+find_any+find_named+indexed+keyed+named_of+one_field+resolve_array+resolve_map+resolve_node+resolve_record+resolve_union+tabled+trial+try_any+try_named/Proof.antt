@@ -751,16 +751,16 @@ one-field-part-resolve-node-start : (t : ℕ) → one-field-lts.Need-part-resolv
 one-field-part-resolve-node-start t c = c .before .before .before .before .field-at .ensures .inside
 
 one-field-sub-resolve-node-2 : (t : ℕ) → one-field-lts.Need-sub-resolve-node-2 (one-field-claims t) (one-field-at t) one-field.Post
-one-field-sub-resolve-node-2 t c = let b = c .before .before .before .before .before .before .before .before .before .before .before .before .before .before .before .before .before in found-inside _ _ (b .pre .1 .0) _ (c .before .before .before .before .before .field-at .ensures) _ _ _ (b .pre .1 .1) (getD-allBytes (b .args .s .now) (λ i. omega (arith, c .before .before .before .before .before .before .before .before .before .before .before .before .before .before .before .before .shared-slice-known .given i))) (c .before .before .before .before .before .before .before .before .before .before .before .before .content .ensures .0) _ (rw (c .before .before .p .given .1) at (c .before .before .before .before .find-in .ensures))
+one-field-sub-resolve-node-2 t c = found-inside _ _ _ _ (rw (c .before .before .p .given .1) at (c .before .before .before .before .find-in .ensures))
 
 one-field-part-resolve-node-start-2 : (t : ℕ) → one-field-lts.Need-part-resolve-node-start-2 (one-field-claims t) (one-field-at t) one-field.Post
-one-field-part-resolve-node-start-2 t c = let b = c .before .before .before .before .before .before .before .before .before .before .before .before .before .before .before .before .before in found-inside _ _ (b .pre .1 .0) _ (c .before .before .before .before .before .field-at .ensures) _ _ _ (b .pre .1 .1) (getD-allBytes (b .args .s .now) (λ i. omega (arith, c .before .before .before .before .before .before .before .before .before .before .before .before .before .before .before .before .shared-slice-known .given i))) (c .before .before .before .before .before .before .before .before .before .before .before .before .content .ensures .0) _ (rw (c .before .before .p .given .1) at (c .before .before .before .before .find-in .ensures))
+one-field-part-resolve-node-start-2 t c = found-inside _ _ _ _ (rw (c .before .before .p .given .1) at (c .before .before .before .before .find-in .ensures))
 
 one-field-sub-resolve-node-4 : (t : ℕ) → one-field-lts.Need-sub-resolve-node-4 (one-field-claims t) (one-field-at t) one-field.Post
 one-field-sub-resolve-node-4 t c = value-there _ _ (c .before .before .before .before .before .before .before .before .before .before .before .before .before .before .before .before .before .before .before .pre .1 .1) .0
 
 one-field-resolve-node-requires : (t : ℕ) → one-field-lts.Need-resolve-node-requires (one-field-claims t) (one-field-at t) one-field.Post
-one-field-resolve-node-requires t c κs = let b = c .before .before .before .before .before .before .before .before .before .before .before .before .before .before .before .before .before .before .before in (omega (arith, b .pre .0), (rw part-to-end (field-schema _ _ (b .pre .1 .0) _ (c .before .before .before .before .before .before .before .field-at .ensures)), rw part-to-end (found-value _ _ (b .pre .1 .0) _ (c .before .before .before .before .before .before .before .field-at .ensures) _ _ _ (b .pre .1 .1) (getD-allBytes (b .args .s .now) (λ i. omega (arith, c .before .before .before .before .before .before .before .before .before .before .before .before .before .before .before .before .before .before .shared-slice-known .given i))) (c .before .before .before .before .before .before .before .before .before .before .before .before .before .before .content .ensures .0) _ (rw (c .before .before .before .before .p .given .1) at (c .before .before .before .before .before .before .find-in .ensures)))))
+one-field-resolve-node-requires t c κs = let b = c .before .before .before .before .before .before .before .before .before .before .before .before .before .before .before .before .before .before .before in (omega (arith, b .pre .0), (rw part-to-end (field-schema _ _ (b .pre .1 .0) _ (c .before .before .before .before .before .before .before .field-at .ensures)), rw part-to-end (found-value _ _ _ _ (rw (c .before .before .before .before .p .given .1) at (c .before .before .before .before .before .before .find-in .ensures)))))
 
 one-field-joined-requires : (t : ℕ) → one-field-lts.Need-joined-requires (one-field-claims t) (one-field-at t) one-field.Post
 one-field-joined-requires t c κs = (built-small _ _ _ (c .before .before .before .before .before .before .before .before .before .before .before .before .before .before .before .before .before .put .ensures), accepted-small _ _ _ (rw (c .before .m .given .1) at (c .before .before .before .before .before .resolve-node .ensures)))
