@@ -1,8 +1,12 @@
-// Where the parts of a schema's field stand: its default, if it has one, and its schema.
+// Where the parts of a schema's field stand: its default, if it has one, and its schema; and how far the field reaches.
+use schema::field_len;
 use text::content;
 use value::value_len;
+ghost use Prim.Native.Nat.{_≤_, _<_};
+ghost use lib.ListN.{length};
 ghost use Rattle.text.specs.Measured.{Reads};
 ghost use Rattle.frame.specs.SchemaFrame.{readField, readSchema};
+ghost use Rattle.frame.specs.Checks.{Spans};
 ghost use Rattle.field.specs.Parts.{FieldParts};
 
 // Whether there is a default, and where it and the schema begin.
@@ -33,4 +37,15 @@ pub fn field_at(s: &[u8], depth: usize) -> FieldAt
         default_at: at,
         schema_at: at + n,
     }
+}
+
+// The length of a field, where `left` counts it and the fields behind it. Behind the last one nothing is looked at.
+pub fn field_reach(s: &[u8], depth: usize, left: u16) -> usize
+    requires { ⌜ Reads (readField (readSchema depth) (now s)) ⌝ }
+    ensures { λ r. ⌜ (r ≤ length (now (s .entry))) × (1 < left → Spans (readField (readSchema depth) (now (s .entry))) (now (s .entry)) r) ⌝ }
+{
+    if left <= 1 {
+        return 0;
+    }
+    field_len(s, depth)
 }

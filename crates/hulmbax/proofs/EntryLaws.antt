@@ -27,7 +27,7 @@ use Rattle.types.specs.Contract.{encoded, onBoth}
 use Rattle.avro.specs.Resolve.{resolve}
 use Rattle.avro.specs.Defaults.{defaultsShort}
 use Rattle.resolution.specs.Contract.{Ready, nodeBytes}
-use Rattle.resolution.specs.Shortness.{SoundRead, testRead}
+use Rattle.defaults.specs.Shortness.{SoundRead, testRead}
 use Rattle.avro.proofs.Refusals.{refusal-resolve}
 use Rattle.hulmbax.specs.Answer.{answer, answerFor, bufferAfter, workspaceAfter, checkedSchema, checkedValue, checkedResult, workspaceSize}
 use Rattle.hulmbax.specs.Entry.{Passed, resolvedOf, stopOf}

@@ -23,7 +23,7 @@ fn schema_stop(schema: &[u8], work: &mut [u8]) -> u8
         Verdict::NoFrame => 2,
         Verdict::Unsound => 3,
         Verdict::Sound => {
-            if resolution::defaults::defaults_short(schema, work, 16) {
+            if defaults::defaults_short(schema, work, 16) {
                 0
             } else {
                 4

@@ -27,7 +27,8 @@ use Rattle.types.specs.Contract.{encoded, onRead, onBoth}
 use Rattle.avro.specs.Resolve.{eachEntry, resolve-map, lookup, fieldValue, resolve-record, resolve, resolveFields, startDefault}
 use Rattle.avro.specs.Defaults.{defaultsShort, fieldDefaultsShort, shortDefault}
 use Rattle.find.specs.Find.{Keyed}
-use Rattle.resolution.specs.Contract.{Ready, resolvePeeled, nodeBytes, peeledBytes, entryBytes, fieldBytes}
+use Rattle.resolution.specs.Contract.{Ready, nodeBytes, entryBytes, fieldBytes}
+use Rattle.leaf.specs.Leaf.{resolvePeeled, peeledBytes}
 use Rattle.resolution.proofs.ReadParts.{value-map, schema-fields, ready-reads}
 use Rattle.resolution.proofs.Pieces.{both-some, onFirst, onSecond, front, eachBytes}
 use Rattle.resolution.proofs.NodeBytes.{value-inv, head-bytes, no-ok}

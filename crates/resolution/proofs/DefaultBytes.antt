@@ -32,26 +32,15 @@ use Rattle.buffer.specs.declared.Answer.the-variants.{Accepted, Refused}
 use Rattle.avro.specs.Resolve.{first, resolve, startDefault}
 use Rattle.avro.specs.Defaults.{defaultsShort, variantDefaultsShort, shortDefault, shortStart}
 use Rattle.frame.proofs.SoundLaws.{sound-union, sound-variant}
-use Rattle.resolution.specs.Contract.{Ready, ReadyDefault, nodeBytes, peeledBytes, defaultBytes}
+use Rattle.resolution.specs.Contract.{Ready, ReadyDefault, nodeBytes, defaultBytes}
+use Rattle.leaf.specs.Leaf.{peeledBytes}
 use Rattle.avro.proofs.Held.{held-resolve}
+use Rattle.avro.proofs.WalkSentences.{start-plain}
 use Rattle.resolution.proofs.Pieces.{both-some}
 use Rattle.resolution.proofs.NodeBytes.{node-peel}
-use Rattle.resolution.proofs.UnionReading.{union-parts}
+use Rattle.variants.proofs.UnionReading.{union-parts}
 
 -- ---- fields that are no union
-
-pub start-plain : (t : Schema) (d : Value) → (schemaKind t ≡ 10 → ⊥) → startDefault t d ≡ ok d
-unfolding resolve schemaKind
-start-plain (Schema.Plain k) d f = refl
-start-plain (Schema.Fixed n) d f = refl
-start-plain (Schema.Decimal p s n) d f = refl
-start-plain (Schema.Uuid u) d f = refl
-start-plain (Schema.Duration n) d f = refl
-start-plain (Schema.Enum ss e) d f = refl
-start-plain (Schema.Array s) d f = refl
-start-plain (Schema.Map s) d f = refl
-start-plain (Schema.Record fs) d f = refl
-start-plain (Schema.Union vs ks ns) d f = absurd (f refl)
 
 pub default-value : (ds : ℕ) (s d : List ℕ) → ReadyDefault ds s d → Reads (readValue 16 d)
 default-value ds s d r = reads-some (r .value) (r .rest) (r .reads)

@@ -107,6 +107,17 @@ unfolding DefaultAt
 default-none s p none w = refl
 default-none s p (some v) w = absurd w
 
+-- the value that was found under a name
+module _ (x v : List ℕ) (dv p : ℕ) (l : Located (entryUnder x (readValue dv v)) (dv - 1) v (At p)) where
+  found-parts : (p ≤ length v) × ((w : Value) × ((entryUnder x (readValue dv v) ≡ some w) × ((r : List ℕ) × (readValue (dv - 1) (drop p v) ≡ some (w, r)))))
+  found-parts = located-at (entryUnder x (readValue dv v)) (dv - 1) v p l
+
+  pub found-inside : p ≤ length v
+  found-inside = found-parts .0
+
+  pub found-value : Reads (readValue (dv - 1) (drop p v))
+  found-value = let i = found-parts .1 in reads-some (i .0) (i .1 .1 .0) (i .1 .1 .1)
+
 module _ (ds : ℕ) (s : List ℕ) (rf : ReadyField ds s) (f : FieldAt) (fp : FieldParts ds s f) where
   same-field : _≡_ {A = Field} (rf .name, rf .default, rf .tree) (fp .name, fp .default, fp .tree)
   same-field = read-what (sym (rf .reads) ∙ fp .reads)
@@ -140,19 +151,10 @@ module _ (ds : ℕ) (s : List ℕ) (rf : ReadyField ds s) (f : FieldAt) (fp : Fi
         ∙ ap (λ y. after (fieldValue o (fp .default) (λ d. startDefault (fp .tree) d)) (λ z. front y (nodeBytes (fp .tree) z))) (sym (text-head s x (drop (2 + length x) s) b e))
 
     module _ (p : ℕ) (l : Located (entryUnder x (readValue dv v)) (dv - 1) v (At p)) where
-      found-parts : (p ≤ length v) × ((w : Value) × ((entryUnder x (readValue dv v) ≡ some w) × ((r : List ℕ) × (readValue (dv - 1) (drop p v) ≡ some (w, r)))))
-      found-parts = located-at (entryUnder x (readValue dv v)) (dv - 1) v p l
-
-      pub found-inside : p ≤ length v
-      found-inside = found-parts .0
-
-      pub found-value : Reads (readValue (dv - 1) (drop p v))
-      found-value = let i = found-parts .1 in reads-some (i .0) (i .1 .1 .0) (i .1 .1 .1)
-
       pub field-found : onBoth fieldBytes (readField (readSchema ds) s) (readValue dv v) ≡ front (take (length x + 2) s) (onBoth nodeBytes (readSchema ds (drop (f .«schema_at») s)) (readValue (dv - 1) (drop p v)))
       unfolding fieldValue after
       field-found =
-          let i = found-parts .1 in
+          let i = found-parts x v dv p l .1 in
           field-open (some (i .0)) (i .1 .0)
           ∙ ap (front (take (length x + 2) s)) (sym (both-some nodeBytes _ _ (fp .tree) (i .0) (fp .rest) (i .1 .1 .0) (fp .schema-at) (i .1 .1 .1)))
 

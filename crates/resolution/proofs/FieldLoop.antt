@@ -21,7 +21,8 @@ use Rattle.types.specs.Contract.{onRead, onBoth}
 use Rattle.buffer.specs.Built.{Built, Wrote}
 use Rattle.buffer.specs.declared.Answer.the-variants.{Accepted}
 use Rattle.find.specs.Find.{Keyed}
-use Rattle.resolution.specs.Contract.{Ready, ReadyField, peeledBytes, fieldBytes}
+use Rattle.resolution.specs.Contract.{Ready, ReadyField, fieldBytes}
+use Rattle.leaf.specs.Leaf.{peeledBytes}
 use Rattle.resolution.proofs.Pieces.{onSecond, Loop, going-start, loop-reach, loop-tail}
 use Rattle.resolution.proofs.ChildBytes.{FineFields, fine-none, fine-first, fine-rest, fields-fine, fields-long, fields-others, fields-start}
 

@@ -5,11 +5,5 @@ pub mod ChildBytes
 pub mod FieldBytes
 pub mod FieldLoop
 pub mod DefaultBytes
-pub mod UnionReading
-pub mod UnionKinds
-pub mod UnionTables
 pub mod UnionChoice
 pub mod UnionCycle
-pub mod SoundParts
-pub mod DefaultLaws
-pub mod LeafSchemas

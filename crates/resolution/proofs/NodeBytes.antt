@@ -28,7 +28,8 @@ use Rattle.avro.specs.Resolve.{eachItem, resolve-array, resolve}
 use Rattle.avro.specs.Defaults.{defaultsShort}
 use Rattle.find.specs.Find.{peelRead}
 use Rattle.find.proofs.PeelLaws.{peel-reads as peeled-reads}
-use Rattle.resolution.specs.Contract.{Ready, resolvePeeled, nodeBytes, peeledBytes}
+use Rattle.resolution.specs.Contract.{Ready, nodeBytes}
+use Rattle.leaf.specs.Leaf.{resolvePeeled, peeledBytes}
 use Rattle.resolution.proofs.ReadParts.{value-array, schema-array, schema-map, ready-reads}
 use Rattle.resolution.proofs.Pieces.{both-some, onFirst, front, eachBytes}
 

@@ -21,13 +21,9 @@ use Rattle.frame.proofs.Counting.{many-zero, Split, many-split}
 use Rattle.types.specs.Contract.{onRead, onBoth}
 use Rattle.buffer.specs.Built.{Built, Wrote}
 use Rattle.buffer.proofs.BuiltLaws.{tail-back, length-tail-back, built-small, built-append}
-use Rattle.buffer.specs.declared.Answer.{Answer}
 use Rattle.buffer.specs.declared.Answer.the-variants.{Accepted, Refused}
 
 -- ---- answers
-
-pub wrote-eq : (x y : Result (List ℕ)) (o : List ℕ) (r : Answer) → x ≡ y → Wrote y o r → Wrote x o r
-wrote-eq x y o r e w = subst (λ u. Wrote u o r) (sym e) w
 
 pub accepted-small : (x : Result (List ℕ)) (o : List ℕ) (m : ℕ) → Wrote x o (Accepted m) → m ≤ 65536
 unfolding Wrote

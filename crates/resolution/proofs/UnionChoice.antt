@@ -3,33 +3,46 @@ use Prim.Native.Nat.{ℕ, zero, suc, _≤_, _<_}
 use mathlib.Core.Path.{_≡_, refl, sym, ap, _∙_, subst}
 use mathlib.Core.List.{List, [], _∷_, _++_}
 use mathlib.Core.Option.{Option, none, some}
-use mathlib.Core.Bool.{Bool, true, false, _&&_, not}
+use mathlib.Core.Bool.{Bool, true, false, _&&_}
 use native.Mathlib.Omega.{arith}
 use lib.Dec.{T, leb, ltb, eqb, ltb→lt}
 use lib.ListN.{length, drop, getD}
 use lib.Ieee.Fits.{and-l, and-r}
-use borrow.Author.Tests.{eq-eqb, ne-eqb, lt-ltb, le-ltb, ltb-true, ltb-false, eqb-true}
+use borrow.Author.Tests.{lt-ltb, le-ltb, ltb-true, ltb-false, eqb-true}
 use Rattle.base.specs.Base.{if_then_else_, ok, stop, after, accepted}
 use Rattle.number.specs.Number.{bytesOf}
+use Rattle.text.specs.Read.{Read}
 use Rattle.frame.specs.Kind
 use Rattle.frame.specs.Tree.{Value, Schema, Variants, kindOf, schemaKind, peel}
 use Rattle.frame.specs.ValueFrame.{encodeValue}
 use Rattle.frame.specs.SchemaFrame as frame
 use Rattle.frame.specs.Sound.{schemaSound, variantsSound, kindsSound, positionsSound}
-use Rattle.types.specs.Types.{Outcome, next-place}
+use Rattle.types.specs.Types.{Outcome}
 use Rattle.types.specs.Contract.{encoded}
 use Rattle.buffer.specs.Built.{Built, Wrote}
 use Rattle.buffer.specs.declared.Answer.{Answer}
 use Rattle.buffer.specs.declared.Answer.the-variants.{Accepted, Refused}
-use Rattle.avro.specs.Union.{Trial, noTrial, schema-to-base-schemakind, unnamedKind, namedKind, lookupKind, takeVariant, unnamedVariant, namedVariant, firstThatResolves, choose, find-schema-with-known-schemata, inUnion, mustBeTried, takes, tableLookup, resolve-union}
+use Rattle.avro.specs.Union.{Trial, noTrial, schema-to-base-schemakind, unnamedKind, namedKind, lookupKind, takeVariant, unnamedVariant, namedVariant, firstThatResolves, choose, find-schema-with-known-schemata, inUnion, mustBeTried, tableLookup, resolve-union}
 use Rattle.avro.specs.Resolve.{resolve, trials}
+use Rattle.avro.proofs.UnionLaws.{none-some, take-accepted, take-untried, take-refused, takes-other, takes-by}
 use Rattle.avro.specs.Defaults.{defaultsShort, variantDefaultsShort}
 use Rattle.frame.proofs.SoundLaws.{sound-variant}
-use Rattle.resolution.specs.Contract.{resolvePeeled, peeledBytes, unionVariants, kindTable, namedTable, foundOf}
-use Rattle.resolution.specs.UnionContract.{trialsOf, trialAt, countOf, Tries, FailedAt, isAt, tableOf, namedOf, Stands, TriedFor, soonerOf, NamedAfter, TableFirst}
+use Rattle.leaf.specs.Leaf.{resolvePeeled, peeledBytes}
+use Rattle.variants.specs.Ways.{unionVariants, kindTable, namedTable, foundOf, countOf, isAt, soonerOf}
+use Rattle.resolution.specs.UnionContract.{OnBoth, trialsOf, trialAt, Tries, FailedAt, tableOf, namedOf, Stands, TriedFor, NamedAfter, TableFirst}
 use Rattle.find.specs.declared.Found.{Found}
-use Rattle.resolution.specs.declared.Tried.{Tried}
-use Rattle.resolution.specs.declared.Choice.{Choice}
+use Rattle.variants.specs.declared.Tried.{Tried}
+use Rattle.variants.specs.declared.Choice.{Choice}
+
+-- ---- what was read
+
+pub on-both : {A B : Type 0} (P : A → B → Type 0) (x : Read A) (y : Read B) (a : A) (r : List ℕ) (b : B) (u : List ℕ) → x ≡ some (a, r) → y ≡ some (b, u) → OnBoth P x y → P a b
+unfolding OnBoth
+on-both P x y a r b u e f h = rw (e, f) at h
+
+pub on-both-of : {A B : Type 0} (P : A → B → Type 0) (x : Read A) (y : Read B) (a : A) (r : List ℕ) (b : B) (u : List ℕ) → x ≡ some (a, r) → y ≡ some (b, u) → P a b → OnBoth P x y
+unfolding OnBoth
+on-both-of P x y a r b u e f h = rw (e, f) h
 
 -- ---- the trials, and soundness, variant by variant
 
@@ -71,9 +84,6 @@ position-below n (p ∷ ps) (suc j) t h = position-below n ps j (and-r (ltb p n)
 
 some-same : (a b : ℕ) → some a ≡ some b → a ≡ b
 some-same a b e = cc
-
-none-some : {A : Type 0} (x : Option ℕ) (b : ℕ) → x ≡ none → x ≡ some b → A
-none-some x b e f = let z : _≡_ {A = ℕ} 0 1 = cc in absurd (omega arith)
 
 pub lookup-below : (n least : ℕ) (ks : List (ℕ × ℕ)) (k i : ℕ) → T (kindsSound n least ks) → lookupKind k ks ≡ some i → i < n
 unfolding kindsSound lookupKind
@@ -140,79 +150,7 @@ module _ (ts : List Trial) (i : ℕ) where
   unfolding inUnion
   indexed-not o e w = outcome-not (getD ts i noTrial .outcome) i o e w
 
-  -- ---- the kind table's variant
-
-  take-if : takeVariant ts (some i) ≡ (if mustBeTried (getD ts i noTrial .kind) && not (accepted (getD ts i noTrial .outcome)) then none else some i)
-  unfolding takeVariant
-  take-if = refl
-
-  pub take-accepted : accepted (getD ts i noTrial .outcome) ≡ true → takeVariant ts (some i) ≡ some i
-  take-accepted e = take-if ∙ ap (λ b. if mustBeTried (getD ts i noTrial .kind) && not b then none else some i) e ∙ go (mustBeTried (getD ts i noTrial .kind))
-    where
-      go : (b : Bool) → (if b && false then none else some i) ≡ some i
-      go true = refl
-      go false = refl
-
-  pub take-untried : mustBeTried (getD ts i noTrial .kind) ≡ false → takeVariant ts (some i) ≡ some i
-  take-untried e = take-if ∙ ap (λ b. if b && not (accepted (getD ts i noTrial .outcome)) then none else some i) e
-
-  pub take-refused : mustBeTried (getD ts i noTrial .kind) ≡ true → accepted (getD ts i noTrial .outcome) ≡ false → takeVariant ts (some i) ≡ none
-  take-refused e f = take-if ∙ ap (λ b. if b && not (accepted (getD ts i noTrial .outcome)) then none else some i) e ∙ ap (λ b. if true && not b then none else some i) f
-
--- ---- the first that resolves
-
-pub first-none : (ts : List Trial) → ((j : ℕ) → j < length ts → accepted (getD ts j noTrial .outcome) ≡ false) → firstThatResolves ts ≡ none
-unfolding firstThatResolves next-place
-first-none [] h = refl
-first-none (t ∷ ts) h =
-    ap (λ b. if b then some 0 else next-place (firstThatResolves ts)) (h 0 (omega arith)) ∙ ap next-place (first-none ts (λ j l. h (suc j) (omega arith)))
-
-pub first-at : (ts : List Trial) (i : ℕ) → i < length ts → ((j : ℕ) → j < i → accepted (getD ts j noTrial .outcome) ≡ false) → accepted (getD ts i noTrial .outcome) ≡ true → firstThatResolves ts ≡ some i
-unfolding firstThatResolves next-place
-first-at [] i l h e = absurd (omega arith)
-first-at (t ∷ ts) zero l h e = ap (λ b. if b then some 0 else next-place (firstThatResolves ts)) e
-first-at (t ∷ ts) (suc i) l h e =
-    ap (λ b. if b then some 0 else next-place (firstThatResolves ts)) (h 0 (omega arith)) ∙ ap next-place (first-at ts i (omega arith) (λ j m. h (suc j) (omega arith)) e)
-
--- ---- the first named one that resolves
-
-named-if : (ts : List Trial) (i : ℕ) (ns : List ℕ) (k : ℕ) → namedVariant ts (i ∷ ns) (some k) ≡ (if takes k ts i then some i else namedVariant ts ns (some k))
-unfolding namedVariant
-named-if ts i ns k = refl
-
-pub named-none : (ts : List Trial) (ns : List ℕ) (k : ℕ) → ((j : ℕ) → j < length ns → takes k ts (getD ns j 0) ≡ false) → namedVariant ts ns (some k) ≡ none
-unfolding namedVariant
-named-none ts [] k h = refl
-named-none ts (n ∷ ns) k h =
-    named-if ts n ns k ∙ ap (λ b. if b then some n else namedVariant ts ns (some k)) (h 0 (omega arith)) ∙ named-none ts ns k (λ j l. h (suc j) (omega arith))
-
-pub named-at : (ts : List Trial) (ns : List ℕ) (k j : ℕ) → j < length ns → ((m : ℕ) → m < j → takes k ts (getD ns m 0) ≡ false) → takes k ts (getD ns j 0) ≡ true → namedVariant ts ns (some k) ≡ some (getD ns j 0)
-named-at ts [] k j l h e = absurd (omega arith)
-named-at ts (n ∷ ns) k zero l h e = named-if ts n ns k ∙ ap (λ b. if b then some n else namedVariant ts ns (some k)) e
-named-at ts (n ∷ ns) k (suc j) l h e =
-    named-if ts n ns k ∙ ap (λ b. if b then some n else namedVariant ts ns (some k)) (h 0 (omega arith)) ∙ named-at ts ns k j (omega arith) (λ m q. h (suc m) (omega arith)) e
-
--- where none is taken, each of them fails
-pub named-missed : (ts : List Trial) (ns : List ℕ) (k j : ℕ) → namedVariant ts ns (some k) ≡ none → j < length ns → takes k ts (getD ns j 0) ≡ false
-named-missed ts [] k j e h = absurd (omega arith)
-named-missed ts (n ∷ ns) k j e h = split (takes k ts n) refl j h (λ i f l. named-missed ts ns k i f l)
-  where
-    split : (b : Bool) → takes k ts n ≡ b → (j : ℕ) → j < suc (length ns) → ((i : ℕ) → namedVariant ts ns (some k) ≡ none → i < length ns → takes k ts (getD ns i 0) ≡ false) → takes k ts (getD (n ∷ ns) j 0) ≡ false
-    split true p j l rest = none-some _ n e (named-if ts n ns k ∙ ap (λ b. if b then some n else namedVariant ts ns (some k)) p)
-    split false p zero l rest = p
-    split false p (suc i) l rest = rest i (sym (named-if ts n ns k ∙ ap (λ b. if b then some n else namedVariant ts ns (some k)) p) ∙ e) (omega arith)
-
-pub named-any : (ts : List Trial) (ns : List ℕ) → namedVariant ts ns none ≡ none
-unfolding namedVariant
-named-any ts ns = refl
-
-pub takes-other : (k : ℕ) (ts : List Trial) (i : ℕ) → (getD ts i noTrial .base ≡ k → ⊥) → takes k ts i ≡ false
-unfolding takes
-takes-other k ts i n = ap (λ b. b && accepted (getD ts i noTrial .outcome)) (ne-eqb _ _ n)
-
-pub takes-by : (k : ℕ) (ts : List Trial) (i : ℕ) → getD ts i noTrial .base ≡ k → takes k ts i ≡ accepted (getD ts i noTrial .outcome)
-unfolding takes
-takes-by k ts i e = ap (λ b. b && accepted (getD ts i noTrial .outcome)) (eq-eqb _ _ e)
+-- ---- what was tried
 
 pub tried-other : (k i : ℕ) (t : Schema) (w : Value) (o : List ℕ) (e : ℕ) → (trialAt t w i .base ≡ k → ⊥) → TriedFor k i t w o (Refused e)
 unfolding TriedFor

@@ -1,13 +1,14 @@
 -- Union resolution over parts, at each place of its functions: a variant's part is ready, its trial is that of the definition, and what the searches answer.
 use Prim.Native.Nat.{ℕ, _+_, _-_, _*_, _≤_, _<_, min}
 use mathlib.Core.Path.{_≡_, sym, ap, _∙_, subst}
-use mathlib.Core.List.{List, _∷_, _++_}
+use mathlib.Core.List.{List, [], _∷_, _++_}
 use mathlib.Core.Option.{Option, none, some}
 use mathlib.Core.Bool.{Bool, true, false}
 use native.Mathlib.Omega.{arith}
 use borrow.Author.Count.{below-more}
 use lib.Dec.{T}
-use lib.ListN.{length, take, drop, getD}
+use lib.ListN.{length, take, drop, getD, length-append, drop-of-length-le}
+use lib.Seq.{drop-at, length-take-le}
 use Rattle.base.specs.Base.{Result, after, accepted}
 use Rattle.number.specs.Number.{bytesOf, numberAt}
 use Rattle.number.proofs.Laws.{getD-allBytes, numberAt-<}
@@ -27,17 +28,30 @@ use Rattle.buffer.proofs.BuiltLaws.{tail-back, wrote-refused}
 use Rattle.avro.specs.Union.{Trial, noTrial, unnamedKind, namedKind, takeVariant, namedVariant, firstThatResolves, inUnion, mustBeTried, takes, tableLookup}
 use Rattle.avro.specs.Resolve.{trials}
 use Rattle.avro.specs.Defaults.{defaultsShort}
+use Rattle.avro.proofs.UnionLaws.{take-accepted, take-untried, take-refused, first-none, first-at, named-none, named-at, named-missed, named-any, takes-by}
 use Rattle.frame.proofs.SoundLaws.{sound-union}
-use Rattle.resolution.specs.Contract.{Ready, nodeBytes, peeledBytes, variantBytes, kindTable, namedTable, foundOf, wantedOf}
-use Rattle.resolution.specs.UnionContract.{OnRead, OnBoth, Passed, Numbers, Among, WasNamed, TriedBefore, Tries, FailedAt, NoneYet, isAt, baseRead, trialsOf, trialAt, countOf, tableOf, namedOf, firstBytes, Stands, TriedFor, soonerOf, NamedAfter, TableFirst}
+use Rattle.resolution.specs.Contract.{Ready, nodeBytes, variantBytes}
+use Rattle.leaf.specs.Leaf.{peeledBytes}
+use Rattle.variants.specs.Ways.{kindTable, namedTable, foundOf, wantedOf, OnRead, Passed, Numbers, Among, WasNamed, isAt, baseRead, countOf, soonerOf}
+use Rattle.resolution.specs.UnionContract.{OnBoth, TriedBefore, Tries, FailedAt, NoneYet, trialsOf, trialAt, tableOf, namedOf, firstBytes, Stands, TriedFor, NamedAfter, TableFirst}
 use Rattle.find.specs.declared.Found.{Found}
-use Rattle.resolution.specs.declared.Tried.{Tried}
-use Rattle.resolution.specs.declared.Choice.{Choice}
-use Rattle.resolution.specs.declared.Wanted.{Wanted}
-use Rattle.resolution.specs.declared.Positions.{Positions}
-use Rattle.resolution.proofs.UnionReading.{Parts, union-parts, parts-variants, parts-kinds, parts-named, parts-length, parts-count, passed-start, passed-first, passed-item, passed-variants, on-read, on-read-of, on-both, on-both-of}
-use Rattle.resolution.proofs.UnionTables.{sixth-on}
-use Rattle.resolution.proofs.UnionChoice.{trialOf, trial-nth, trials-length, short-union, sound-nth, short-nth, position-below, lookup-below, answer-accepted, indexed, indexed-refused, indexed-accepted, indexed-not, take-accepted, take-untried, take-refused, first-none, first-at, named-none, named-at, named-missed, named-any, takes-by, tries-of, tried-again, tried-other, tried-for, chosen, peeled-chosen, chosen-table, chosen-named, chosen-first, table-first, named-first, neither-first, neither-named}
+use Rattle.variants.specs.declared.Tried.{Tried}
+use Rattle.variants.specs.declared.Choice.{Choice}
+use Rattle.variants.specs.declared.Wanted.{Wanted}
+use Rattle.variants.specs.declared.Positions.{Positions}
+use Rattle.variants.proofs.UnionReading.{Parts, union-parts, parts-variants, parts-kinds, parts-named, parts-length, parts-count, passed-start, passed-first, passed-item, passed-variants, on-read, on-read-of}
+use Rattle.resolution.proofs.UnionChoice.{on-both, on-both-of, trialOf, trial-nth, trials-length, short-union, sound-nth, short-nth, position-below, lookup-below, answer-accepted, indexed, indexed-refused, indexed-accepted, indexed-not, tries-of, tried-again, tried-other, tried-for, chosen, peeled-chosen, chosen-table, chosen-named, chosen-first, table-first, named-first, neither-first, neither-named}
+
+-- what was written from the sixth byte on
+sixth-on : (k : ℕ) (o y : List ℕ) → k ≡ min 5 (length o) → length y ≡ length o - k → drop 5 (take k o ++ y) ≡ y
+sixth-on k o y h l = go y l
+  where
+    tk : length (take k o) ≡ k
+    tk = length-take-le k o (omega arith)
+
+    go : (y : List ℕ) → length y ≡ length o - k → drop 5 (take k o ++ y) ≡ y
+    go [] l = drop-of-length-le (take k o ++ []) {i = 5} (omega (arith, tk, length-append (take k o) []))
+    go (b ∷ ys) l = let z : k ≡ 5 = omega arith in drop-at (take k o) (b ∷ ys) 5 (tk ∙ z)
 
 -- a result that was written from the sixth byte on
 pub wrote-sixth : (x : Result (List ℕ)) (k : ℕ) (o y : List ℕ) (a : Answer) → k ≡ min 5 (length o) → length y ≡ length o - k → Wrote x y a → Wrote x (drop 5 (take k o ++ (y ++ drop (length o - k) (drop k o)))) a

@@ -1,3 +1,2 @@
 pub mod Contract
 pub mod UnionContract
-pub mod Shortness

@@ -1,35 +1,35 @@
 // Node, record and union resolution, which call one another with a falling schema depth. Each function writes its result into
 // the slice that it is lent, as far as it fits, and answers the result's whole length or the refusal.
-use crate::Choice;
-use crate::Positions;
-use crate::Tried;
-use crate::Wanted;
-use crate::leaf::resolve_leaf;
-use crate::reach::field_reach;
-use crate::union::base_kind;
-use crate::union::is_at;
-use crate::union::is_tried;
-use crate::union::named_at;
-use crate::union::named_kind;
-use crate::union::put_index;
-use crate::union::sooner;
-use crate::union::stands_in;
-use crate::union::table_position;
-use crate::union::unnamed_kind;
-use crate::union::variant_at;
-use crate::union::was_named;
 use buffer::Answer;
 use buffer::joined;
 use buffer::put;
 use buffer::room;
 use field::field_at;
+use field::field_reach;
 use find::Found;
 use find::find_in;
 use find::mark;
 use find::peel;
+use leaf::resolve_leaf;
 use schema::schema_len;
 use value::entry_len;
 use value::value_len;
+use variants::Choice;
+use variants::Positions;
+use variants::Tried;
+use variants::Wanted;
+use variants::base_kind;
+use variants::is_at;
+use variants::is_tried;
+use variants::named_at;
+use variants::named_kind;
+use variants::put_index;
+use variants::sooner;
+use variants::stands_in;
+use variants::table_position;
+use variants::unnamed_kind;
+use variants::variant_at;
+use variants::was_named;
 ghost use mathlib.Core.Path.{_≡_};
 ghost use Prim.Native.Nat.{_-_, _<_};
 ghost use lib.ListN.{getD, drop};
@@ -40,10 +40,12 @@ ghost use Rattle.buffer.specs.Built.{Wrote};
 ghost use Rattle.find.specs.Find.{Keyed};
 ghost use Rattle.find.specs.Marks.{Marked};
 ghost use Rattle.types.specs.Contract.{onBoth};
-ghost use Rattle.resolution.specs.Contract.{Ready, ReadyDefault, ReadyField, defaultBytes, entryBytes, fieldBytes, nodeBytes, peeledBytes, namedTable, variantBytes};
+ghost use Rattle.resolution.specs.Contract.{Ready, ReadyDefault, ReadyField, defaultBytes, entryBytes, fieldBytes, nodeBytes, variantBytes};
+ghost use Rattle.leaf.specs.Leaf.{peeledBytes};
+ghost use Rattle.variants.specs.Ways.{namedTable, Numbers, OnRead, Passed, countOf};
 ghost use mathlib.Core.Option.{some};
 ghost use Rattle.avro.specs.Union.{firstThatResolves, namedVariant};
-ghost use Rattle.resolution.specs.UnionContract.{NoneYet, Numbers, OnBoth, OnRead, Passed, Stands, TableFirst, TriedBefore, TriedFor, Tries, countOf, firstBytes, namedOf, trialsOf};
+ghost use Rattle.resolution.specs.UnionContract.{NoneYet, OnBoth, Stands, TableFirst, TriedBefore, TriedFor, Tries, firstBytes, namedOf, trialsOf};
 
 pub fn resolve_node(s: &[u8], v: &[u8], out: &mut [u8], ds: usize, dv: usize) -> Answer
     requires { ⌜ Ready ds (now s) × Reads (readValue dv (now v)) ⌝ }
@@ -79,8 +81,8 @@ fn resolve_array(s: &[u8], v: &[u8], out: &mut [u8], ds: usize, dv: usize) -> An
     let mut at = put(out, &v[..3]);
     let mut from: usize = 3;
     while 0 < left {
-        let o = room(at, out.len());
-        match resolve_node(&s[1..], &v[from..], &mut out[o..], ds - 1, dv - 1) {
+        let to = room(at, out.len());
+        match resolve_node(&s[1..], &v[from..], &mut out[to..], ds - 1, dv - 1) {
             Answer::Accepted(m) => {
                 at = joined(at, m);
             }

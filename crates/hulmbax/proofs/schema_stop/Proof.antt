@@ -7,7 +7,7 @@ use Rattle.hulmbax.proofs.schema_stop.Statement.{statement}
 use Rattle.hulmbax.proofs.schema_stop.Tie as tie
 use Rattle.hulmbax.proofs.schema_stop.Reads as reads
 use Rattle.hulmbax.proofs.schema_stop.Lts as lts
-use Rattle.resolution.proofs.defaults.defaults_short.Reads as defaults-short-reads
+use Rattle.defaults.proofs.defaults_short.Reads as defaults-short-reads
 use Rattle.schema.proofs.schema_frame.Reads as schema-frame-reads
 
 schema-frame-requires : tie.Need-schema-frame-requires

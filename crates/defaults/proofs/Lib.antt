@@ -1,0 +1,2 @@
+pub mod SoundParts
+pub mod DefaultLaws

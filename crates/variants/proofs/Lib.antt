@@ -1,0 +1,3 @@
+pub mod UnionReading
+pub mod UnionKinds
+pub mod UnionTables
