@@ -2,13 +2,17 @@
 // schema or a value, the frame in hexadecimal, and a mark: `+` for a sound frame, else the number that stops it; or it begins with
 // `#` and says something. Each line whose frame has another mark is named, and at the end both are counted.
 use frame::Verdict;
+use lines::output::put;
+use lines::output::put_decimal;
 ghost use mathlib.Core.Path.{_≡_};
 ghost use Rattle.frames.specs.Mark.{schemaMark, valueMark, markOf};
 
+// The lines read, the frames compared, those that differ, and whether every write so far went through.
 struct Tally {
     line: u64,
     compared: u64,
     differ: u64,
+    ok: bool,
 }
 
 fn schema_mark(v: Verdict) -> u8
@@ -50,10 +54,10 @@ fn more(n: u64) -> u64 {
 }
 
 // Names a line whose frame has another mark.
-fn name(line: u64) {
-    io::write_all(1, b"line ");
-    io::print_decimal(1, line);
-    io::write_all(1, b" differs\n");
+fn name(ok: bool, line: u64) -> bool {
+    let ok = put(ok, b"line ");
+    let ok = put_decimal(ok, line);
+    put(ok, b" differs\n")
 }
 
 fn compared(t: Tally, same: bool) -> Tally {
@@ -63,13 +67,14 @@ fn compared(t: Tally, same: bool) -> Tally {
             line,
             compared: more(t.compared),
             differ: t.differ,
+            ok: t.ok,
         };
     }
-    name(line);
     Tally {
         line,
         compared: more(t.compared),
         differ: more(t.differ),
+        ok: name(t.ok, line),
     }
 }
 
@@ -84,6 +89,7 @@ fn counted(t: Tally, line: &[u8], room: &mut [u8]) -> Tally {
             line: more(t.line),
             compared: t.compared,
             differ: t.differ,
+            ok: t.ok,
         };
     }
     let end = n - 2;
@@ -99,27 +105,37 @@ fn all(block: &mut [u8], line: &mut [u8], room: &mut [u8]) -> Tally {
         line: 0,
         compared: 0,
         differ: 0,
+        ok: true,
     };
     let mut turns = u64::MAX;
     while turns > 0 {
         r = lines::input::next(r, block, line);
-        if !r.whole {
+        if !r.whole || !t.ok {
             return t;
         }
         let n = r.filled;
-        t = counted(t, &line[..n], room);
+        t = counted(t, &line[0..n], room);
         turns -= 1;
     }
     t
 }
 
+// How many were compared and differ.
+fn report(t: Tally) {
+    let ok = put_decimal(t.ok, t.compared);
+    let ok = put(ok, b" frames compared, ");
+    let ok = put_decimal(ok, t.differ);
+    put(ok, b" differ\n");
+}
+
 fn main() {
+    if lines::output::usage(
+        b"usage: frames < LIST\nReads a list of frames and their marks from standard input. It takes no arguments.\n",
+    ) {
+        return;
+    }
     let mut block = [0u8; 65536];
     let mut line = [0u8; 131200];
     let mut room = [0u8; 65600];
-    let t = all(&mut block, &mut line, &mut room);
-    io::print_decimal(1, t.compared);
-    io::write_all(1, b" frames compared, ");
-    io::print_decimal(1, t.differ);
-    io::write_all(1, b" differ\n");
+    report(all(&mut block, &mut line, &mut room));
 }

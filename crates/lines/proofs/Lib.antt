@@ -1,3 +1,4 @@
+pub mod CallLaws
 pub mod CutLaws
 pub mod HeldLaws
 pub mod LineLaws

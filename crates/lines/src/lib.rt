@@ -1,5 +1,7 @@
-// Lines of the programs: standard input cut into lines, the frame that a line stands for, and the line for an answer.
+// Lines of the programs: standard input cut into lines and standard output, the frame that a line stands for, and the line for an answer.
+pub mod calls;
 pub mod input;
+pub mod output;
 
 ghost use mathlib.Core.Path.{_≡_};
 ghost use mathlib.Core.List.{[], _∷_, _++_};

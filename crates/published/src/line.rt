@@ -1,6 +1,7 @@
 // A line of the input: the name of a leaf, a space, and what it is given.
 use crate::number_line;
 use crate::text_line;
+use lines::output::put;
 ghost use Prim.Native.Nat.{_≤_};
 ghost use lib.ListN.{length};
 
@@ -26,29 +27,34 @@ fn is_note(s: &[u8]) -> bool {
 }
 
 // A name that stands for no leaf shows as such.
-fn leaf(name: &[u8], given: &[u8]) {
-    if text_line::answer(name, given) {
-        return;
+fn leaf(ok: bool, name: &[u8], given: &[u8]) -> bool {
+    let t = text_line::answer(ok, name, given);
+    if t.known {
+        return t.ok;
     }
-    if number_line::answer(name, given) {
-        return;
+    let n = number_line::answer(ok, name, given);
+    if n.known {
+        return n.ok;
     }
-    io::write_all(1, b"no such line");
+    put(ok, b"no such line")
 }
 
-pub(crate) fn answer(s: &[u8]) {
-    io::write_all(1, s);
-    if is_note(s) {
-        io::write_all(1, b"\n");
-        return;
-    }
-    io::write_all(1, b": ");
+// What stands behind the line: the leaf's answer to it.
+fn behind(ok: bool, s: &[u8]) -> bool {
     let at = space(s);
     if at == s.len() {
-        leaf(s, b"");
-    } else {
-        let from = at + 1;
-        leaf(&s[0..at], &s[from..]);
+        return leaf(ok, s, b"");
     }
-    io::write_all(1, b"\n");
+    let from = at + 1;
+    leaf(ok, &s[0..at], &s[from..])
+}
+
+pub(crate) fn answer(ok: bool, s: &[u8]) -> bool {
+    let ok = put(ok, s);
+    if is_note(s) {
+        return put(ok, b"\n");
+    }
+    let ok = put(ok, b": ");
+    let ok = behind(ok, s);
+    put(ok, b"\n")
 }

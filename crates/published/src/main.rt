@@ -5,40 +5,31 @@
 mod line;
 mod number_line;
 mod text_line;
+mod told;
 
-ghost use Prim.Native.Nat.{_≤_};
-ghost use lib.ListN.{length};
-
-// The place of the next newline, or the input's end.
-fn newline(s: &[u8], from: usize) -> usize
-    requires { ⌜ from ≤ length (now s) ⌝ }
-    ensures { λ r. ⌜ (from ≤ r) × (r ≤ length (now (s .entry))) ⌝ }
-{
-    let mut at = from;
-    while at < s.len() {
-        if s[at] == b'\n' {
-            return at;
-        }
-        at += 1;
-    }
-    at
-}
-
-fn lines(s: &[u8]) {
-    let mut from = 0;
-    while from < s.len() {
-        let at = newline(s, from);
-        line::answer(&s[from..at]);
-        if at == s.len() {
+// A proved loop has to end, and nothing says that the input does. So the turns are counted down from a number that no run uses up.
+fn all(block: &mut [u8], text: &mut [u8]) {
+    let mut r = lines::input::start();
+    let mut ok = true;
+    let mut turns = u64::MAX;
+    while turns > 0 {
+        r = lines::input::next(r, block, text);
+        if !r.whole || !ok {
             return;
         }
-        from = at + 1;
+        let n = r.filled;
+        ok = line::answer(ok, &text[0..n]);
+        turns -= 1;
     }
 }
 
-// The examples are far fewer than 65,536 bytes.
 fn main() {
-    let mut input = io::large_buffer();
-    let n = io::read_full(0, &mut input);
-    lines(&input[..n]);
+    if lines::output::usage(
+        b"usage: published < EXAMPLES\nReads worked examples, a line each, from standard input. It takes no arguments.\n",
+    ) {
+        return;
+    }
+    let mut block = [0u8; 4096];
+    let mut text = [0u8; 4096];
+    all(&mut block, &mut text);
 }

@@ -1,109 +1,101 @@
 // Lines of numbers, by their bits in hexadecimal: the conversions, the decimal precisions and the parts of a duration.
-fn print4(b: u32) {
-    io::print_hex(1, b as u64, 8);
+use crate::told::Told;
+use crate::told::known;
+use crate::told::unknown;
+use lines::output::put;
+use lines::output::put_decimal;
+use lines::output::put_hex;
+
+fn put4(ok: bool, b: u32) -> bool {
+    put_hex(ok, b as u64, 8)
 }
 
-fn print8(b: u64) {
-    io::print_hex(1, b, 16);
+fn put8(ok: bool, b: u64) -> bool {
+    put_hex(ok, b, 16)
 }
 
-fn long_to_int_of(b: u64) {
+fn long_to_int_of(ok: bool, b: u64) -> bool {
     match scalar::long_to_int(b) {
-        scalar::Narrowed::To(n) => print4(n),
-        scalar::Narrowed::OutOfRange => {
-            io::write_all(1, b"outside Int");
-        }
+        scalar::Narrowed::To(n) => put4(ok, n),
+        scalar::Narrowed::OutOfRange => put(ok, b"outside Int"),
     }
 }
 
-// The conversions of an Int; whether the name is one of these.
-fn of_int(name: &[u8], b: u32) -> bool {
+// The conversions of an Int.
+fn of_int(ok: bool, name: &[u8], b: u32) -> Told {
     if text::same(name, b"int-to-long") {
-        print8(scalar::int_to_long(b));
-        return true;
+        return known(put8(ok, scalar::int_to_long(b)));
     }
     if text::same(name, b"int-to-float") {
-        print4(scalar::int_to_float(b));
-        return true;
+        return known(put4(ok, scalar::int_to_float(b)));
     }
     if text::same(name, b"int-to-double") {
-        print8(scalar::int_to_double(b));
-        return true;
+        return known(put8(ok, scalar::int_to_double(b)));
     }
-    false
+    unknown(ok)
 }
 
-fn of_float(name: &[u8], b: u32) -> bool {
+fn of_float(ok: bool, name: &[u8], b: u32) -> Told {
     if text::same(name, b"float-to-float") {
-        print4(scalar::float_to_float(b));
-        return true;
+        return known(put4(ok, scalar::float_to_float(b)));
     }
     if text::same(name, b"float-to-double") {
-        print8(scalar::float_to_double(b));
-        return true;
+        return known(put8(ok, scalar::float_to_double(b)));
     }
-    false
+    unknown(ok)
 }
 
-fn of_four(name: &[u8], b: u32) -> bool {
-    if of_int(name, b) {
-        return true;
+fn of_four(ok: bool, name: &[u8], b: u32) -> Told {
+    let t = of_int(ok, name, b);
+    if t.known {
+        return t;
     }
-    of_float(name, b)
+    of_float(ok, name, b)
 }
 
-fn of_long(name: &[u8], b: u64) -> bool {
+fn of_long(ok: bool, name: &[u8], b: u64) -> Told {
     if text::same(name, b"long-to-int") {
-        long_to_int_of(b);
-        return true;
+        return known(long_to_int_of(ok, b));
     }
     if text::same(name, b"long-to-float") {
-        print4(scalar::long_to_float(b));
-        return true;
+        return known(put4(ok, scalar::long_to_float(b)));
     }
     if text::same(name, b"long-to-double") {
-        print8(scalar::long_to_double(b));
-        return true;
+        return known(put8(ok, scalar::long_to_double(b)));
     }
-    false
+    unknown(ok)
 }
 
-fn of_double(name: &[u8], b: u64) -> bool {
+fn of_double(ok: bool, name: &[u8], b: u64) -> Told {
     if text::same(name, b"double-to-float") {
-        print4(scalar::double_to_float(b));
-        return true;
+        return known(put4(ok, scalar::double_to_float(b)));
     }
     if text::same(name, b"double-to-double") {
-        print8(scalar::double_to_double(b));
-        return true;
+        return known(put8(ok, scalar::double_to_double(b)));
     }
-    false
+    unknown(ok)
 }
 
-fn of_eight(name: &[u8], b: u64) -> bool {
-    if of_long(name, b) {
-        return true;
+fn of_eight(ok: bool, name: &[u8], b: u64) -> Told {
+    let t = of_long(ok, name, b);
+    if t.known {
+        return t;
     }
-    of_double(name, b)
+    of_double(ok, name, b)
 }
 
-fn max_precision_of(len: u16) {
+fn max_precision_of(ok: bool, len: u16) -> bool {
     match decimal::max_prec_for_len(len as usize) {
-        decimal::MaxPrec::Digits(p) => {
-            io::print_decimal(1, p as u64);
-        }
-        decimal::MaxPrec::Any => {
-            io::write_all(1, b"any");
-        }
+        decimal::MaxPrec::Digits(p) => put_decimal(ok, p as u64),
+        decimal::MaxPrec::Any => put(ok, b"any"),
     }
 }
 
-fn of_two(name: &[u8], b: u16) -> bool {
+fn of_two(ok: bool, name: &[u8], b: u16) -> Told {
     if text::same(name, b"max-precision") {
-        max_precision_of(b);
-        return true;
+        return known(max_precision_of(ok, b));
     }
-    false
+    unknown(ok)
 }
 
 // A number of 2, 4 or 8 bytes.
@@ -145,55 +137,49 @@ fn admitted(precision: Word, len: Word) -> bool {
 }
 
 // A length of 2 bytes, a space, and a precision of 4.
-fn precision_of(given: &[u8]) -> bool {
+fn precision_of(ok: bool, given: &[u8]) -> Told {
     if given.len() != 13 {
-        return false;
+        return unknown(ok);
     }
     if admitted(read_word(&given[5..13]), read_word(&given[0..4])) {
-        io::write_all(1, b"admitted");
-    } else {
-        io::write_all(1, b"too short");
+        return known(put(ok, b"admitted"));
     }
-    true
+    known(put(ok, b"too short"))
 }
 
-fn print_duration(b: [u8; 12]) {
+fn put_duration(ok: bool, b: [u8; 12]) -> bool {
     let d = duration::Duration::from_bytes(b);
-    io::print_decimal(1, d.months.0 as u64);
-    io::write_all(1, b" months ");
-    io::print_decimal(1, d.days.0 as u64);
-    io::write_all(1, b" days ");
-    io::print_decimal(1, d.millis.0 as u64);
-    io::write_all(1, b" millis");
+    let ok = put_decimal(ok, d.months.0 as u64);
+    let ok = put(ok, b" months ");
+    let ok = put_decimal(ok, d.days.0 as u64);
+    let ok = put(ok, b" days ");
+    let ok = put_decimal(ok, d.millis.0 as u64);
+    put(ok, b" millis")
 }
 
-fn duration_of(given: &[u8]) -> bool {
+fn duration_of(ok: bool, given: &[u8]) -> Told {
     if given.len() != 24 {
-        return false;
+        return unknown(ok);
     }
     let mut b = [0u8; 12];
     match hex::from_hex(given, &mut b) {
-        hex::Frame::Of(_) => {
-            print_duration(b);
-            true
-        }
-        hex::Frame::Broken => false,
-        hex::Frame::TooLong => false,
+        hex::Frame::Of(_) => known(put_duration(ok, b)),
+        hex::Frame::Broken => unknown(ok),
+        hex::Frame::TooLong => unknown(ok),
     }
 }
 
-// Whether the name is one of these, and the number as wide as it asks.
-pub(crate) fn answer(name: &[u8], given: &[u8]) -> bool {
+pub(crate) fn answer(ok: bool, name: &[u8], given: &[u8]) -> Told {
     if text::same(name, b"precision") {
-        return precision_of(given);
+        return precision_of(ok, given);
     }
     if text::same(name, b"duration") {
-        return duration_of(given);
+        return duration_of(ok, given);
     }
     match read_word(given) {
-        Word::Two(b) => of_two(name, b),
-        Word::Four(b) => of_four(name, b),
-        Word::Eight(b) => of_eight(name, b),
-        Word::Other => false,
+        Word::Two(b) => of_two(ok, name, b),
+        Word::Four(b) => of_four(ok, name, b),
+        Word::Eight(b) => of_eight(ok, name, b),
+        Word::Other => unknown(ok),
     }
 }

@@ -1,8 +1,7 @@
 -- `frames::all` is safe and ends. The reader and its buffers go together; the measure is the turns that are left. Assumes nothing.
-use mathlib.Core.Path.{_≡_, refl, sym}
+use mathlib.Core.Path.{_≡_, refl}
 use native.Mathlib.Omega.{arith}
 use lib.ListN.{length}
-use lib.Seq.{length-take-le}
 use Rattle.lines.specs.Held.{Held}
 use borrow.Author.Needs.{needs}
 use Rattle.frames.proofs.all.Statement.{statement}
@@ -17,11 +16,5 @@ abbrev μ-loop : tie.MeasureT-loop
 loop-holds : tie.Need-loop-holds Inv-loop μ-loop
 loop-holds c = (record { order = omega (arith, c .start .ensures); block-holds = omega (arith, c .start .ensures); line-holds = omega (arith, c .start .ensures) }, refl, refl, refl)
 
-slice-reshare-prefix-counted : tie.Need-slice-reshare-prefix-counted Inv-loop μ-loop
-slice-reshare-prefix-counted c = c .before .before .before .before .before .before .next .ensures .line-holds
-
-slice-aggregate-counted : tie.Need-slice-aggregate-counted Inv-loop μ-loop
-slice-aggregate-counted c = sym (length-take-le _ _ (c .before .before .before .before .before .before .before .next .ensures .line-holds))
-
 pub all-spec : {M : Type 1} → statement M
-all-spec = tie.close (tie.spec Inv-loop μ-loop (λ c κs. search needs) loop-holds (λ c κs. search needs) (λ c. search needs) (λ c. search needs) (λ c. search needs) (λ c. search needs) slice-reshare-prefix-counted slice-aggregate-counted (λ c κs. search needs) (λ c. search needs) (λ c. search needs) (λ c. search needs) (λ c. search needs) (λ c. search needs) (λ c. search needs) (λ c. search needs))
+all-spec = tie.close (tie.spec Inv-loop μ-loop (λ c κs. search needs) loop-holds (λ c κs. search needs) (λ c. search needs) (λ c. search needs) (λ c. search needs) (λ c. search needs) (λ c. search needs) (λ c. search needs) (λ c. search needs) (λ c κs. search needs) (λ c. search needs) (λ c. search needs) (λ c. search needs) (λ c. search needs) (λ c. search needs) (λ c. search needs) (λ c. search needs))

@@ -5,6 +5,12 @@ use borrow.Author.Needs.{needs}
 use Rattle.resolve.proofs.main.Statement.{statement}
 use Rattle.resolve.proofs.main.Tie as tie
 
+asked-requires : tie.Need-asked-requires
+asked-requires c κs = search needs
+
+returns : tie.Need-returns
+returns c = search needs
+
 slice-aggregate-run : tie.Need-slice-aggregate-run
 slice-aggregate-run c = search needs
 
@@ -35,13 +41,15 @@ run-requires c κs =
       of-out = length-replicate {A = ℕ} 262144 0;
     }
 
-returns : tie.Need-returns
-returns c = search needs
+returns-2 : tie.Need-returns-2
+returns-2 c = search needs
 
 pub main-spec : {M : Type 1} → statement M
 main-spec =
     tie.close
     (tie.spec
+    asked-requires
+    returns
     slice-aggregate-run
     slice-aggregate-run-2
     slice-aggregate-run-3
@@ -50,4 +58,4 @@ main-spec =
     slice-aggregate-run-6
     slice-aggregate-run-7
     run-requires
-    returns)
+    returns-2)

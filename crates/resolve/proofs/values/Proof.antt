@@ -1,7 +1,7 @@
 -- `resolve::values` meets its contract.
 use borrow.Author.Needs.{needs}
 use Prim.Native.Nat.{_≤_}
-use mathlib.Core.Path.{_≡_}
+use mathlib.Core.Path.{_≡_, _∙_}
 use lib.ListN.{length}
 use Rattle.lines.specs.Held.{Held}
 use Rattle.resolve.specs.Buffers.{Buffers}
@@ -11,10 +11,10 @@ use Rattle.resolve.proofs.values.Tie as tie
 -- The loop's invariant: the reader and its buffers go together, the buffers keep their lengths, and behind what waits there is room for a line. The measure is the turns that are left. Assumes nothing.
 
 abbrev Inv-loop : tie.InvT-loop
-Inv-loop block₀ line₀ schema value₀ result₀ workspace₀ out₀ r₀ waits₀ turns₀ block line value result workspace out r waits turns = Held r block line × Buffers value result workspace out × (waits ≤ 131071) × (length block ≡ length block₀) × (length line ≡ length line₀)
+Inv-loop block₀ line₀ schema value₀ result₀ workspace₀ out₀ r₀ o₀ turns₀ block line value result workspace out r o turns = Held r block line × Buffers value result workspace out × (o .waits ≤ 131071) × (length block ≡ length block₀) × (length line ≡ length line₀)
 
 abbrev μ-loop : tie.MeasureT-loop
-μ-loop block₀ line₀ schema value₀ result₀ workspace₀ out₀ r₀ waits₀ turns₀ block line value result workspace out r waits turns = turns
+μ-loop block₀ line₀ schema value₀ result₀ workspace₀ out₀ r₀ o₀ turns₀ block line value result workspace out r o turns = turns
 
 loop-holds : tie.Need-loop-holds Inv-loop μ-loop
 loop-holds c = search needs
@@ -62,7 +62,21 @@ loop-less : tie.Need-loop-less Inv-loop μ-loop
 loop-less c = search needs
 
 loop-again : tie.Need-loop-again Inv-loop μ-loop
-loop-again c = search needs
+loop-again c =
+    let step = c .before .before .before .before .before .before .before .before .value-line in
+    let turn = c .before .before .before .before .before .before .before .before .before .before .before .before .before .before .before .before .before .before .before .before .before .before .before .before .before .next in
+    let was = c .before .before .before .before .before .before .before .before .before .before .before .before .before .before .before .before .before .before .before .before .before .before .before .before .before .before .before .before .before .before .loop .inv in (
+      turn .ensures .0,
+      record {
+        of-value = step .kept .1 .1 .0 ∙ was .1 .of-value;
+        of-result = step .kept .1 .1 .1 .0 ∙ was .1 .of-result;
+        of-workspace = step .kept .1 .1 .1 .1 .0 ∙ was .1 .of-workspace;
+        of-out = step .kept .1 .1 .1 .1 .1 .0 ∙ was .1 .of-out;
+      },
+      step .ensures .0,
+      turn .kept .1 .1 .0 ∙ was .3,
+      turn .kept .1 .1 .1 .0 ∙ was .4,
+    )
 
 same-length-7 : tie.Need-same-length-7 Inv-loop μ-loop
 same-length-7 c = search needs

@@ -40,7 +40,10 @@ returns c = (
   search needs,
   (
     cut-held _ _ _ (c .before .before .before .before .before .before .before .before .before .before .pre) _ (c .before .before .before .before .before .before .line-end .ensures .0) _ _ _ refl refl (c .before .before .before .kept .ensures .1),
-    cut-open _ _ _ (c .before .before .before .before .before .before .before .before .before .before .pre) _ (c .before .before .before .before .before .before .line-end .ensures .0) _ (c .if1 .taken) refl refl refl,
+    (
+      cut-open _ _ _ (c .before .before .before .before .before .before .before .before .before .before .pre) _ (c .before .before .before .before .before .before .line-end .ensures .0) _ (c .if1 .taken) refl refl refl,
+      c .before .before .before .kept .ensures .0 .2,
+    ),
   ),
 )
 
@@ -55,7 +58,10 @@ returns-2 c = (
   search needs,
   (
     cut-held _ _ _ (c .before .before .before .before .before .before .before .before .before .before .pre) _ (c .before .before .before .before .before .before .line-end .ensures .0) _ _ _ refl refl (c .before .before .before .kept .ensures .1),
-    cut-whole _ _ _ (c .before .before .before .before .before .before .before .before .before .before .pre) _ (c .before .before .before .before .before .before .line-end .ensures .0) _ (c .if1 .left) refl refl refl,
+    (
+      cut-whole _ _ _ (c .before .before .before .before .before .before .before .before .before .before .pre) _ (c .before .before .before .before .before .before .line-end .ensures .0) _ (c .if1 .left) refl refl refl,
+      c .before .before .before .kept .ensures .0 .2,
+    ),
   ),
 )
 

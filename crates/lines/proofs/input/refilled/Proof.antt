@@ -1,23 +1,23 @@
--- `lines::input::refilled` meets its contract.
-use borrow.Author.Needs.{needs}
+-- `lines::input::refilled` meets its contract. Assumes nothing.
+use Prim.Native.Nat.{_≤_}
+use mathlib.Core.Path.{sym, subst}
 use native.Mathlib.Omega.{arith}
+use borrow.Author.Needs.{needs}
+use lib.ListN.{length}
+use Rattle.lines.specs.declared.input.Reader.{Reader}
+use Rattle.lines.proofs.HeldLaws.{supplied-in}
 use Rattle.lines.proofs.input.refilled.Statement.{statement}
 use Rattle.lines.proofs.input.refilled.Tie as tie
 
-returns : tie.Need-returns
-returns c = search needs
-
-read-requires : tie.Need-read-requires
-read-requires c κs = search needs
-
-count-requires : tie.Need-count-requires
-count-requires c κs = search needs
-
-same-length : tie.Need-same-length
-same-length c = search needs
-
-returns-2 : tie.Need-returns-2
-returns-2 c = (search needs, λ h. absurd (omega arith))
+returns-3 : tie.Need-returns-3
+returns-3 c =
+    let r = c .before .before .before .before .before .before .before .before .before .before .args .r in (
+      subst
+          (λ (t : Reader). (t .at ≤ t .end) × (t .end ≤ length (c .before .before .before .before .read .last .0)) × (t .filled ≤ r .filled))
+          (sym (c .supplied .ensures))
+          (supplied-in r _ _ (c .before .before .before .before .read .ensures)),
+      λ h. absurd (omega arith),
+    )
 
 pub refilled-spec : {M : Type 1} → statement M
-refilled-spec = tie.close (tie.spec returns read-requires count-requires same-length returns-2)
+refilled-spec = tie.close (tie.spec (λ c. search needs) (λ c. search needs) (λ c κs. search needs) (λ c κs. search needs) (λ c κs. search needs) (λ c. search needs) returns-3)

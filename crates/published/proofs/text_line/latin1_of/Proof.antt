@@ -10,11 +10,11 @@ is-utf8-requires c κs = search needs
 points-of-requires : tie.Need-points-of-requires
 points-of-requires c κs = sym (c .before .is-utf8 .ensures) ∙ c .if1 .taken
 
-slice-aggregate-write-all : tie.Need-slice-aggregate-write-all
-slice-aggregate-write-all c = search needs
+slice-aggregate-put : tie.Need-slice-aggregate-put
+slice-aggregate-put c = search needs
 
-write-all-requires : tie.Need-write-all-requires
-write-all-requires c κs = search needs
+put-requires : tie.Need-put-requires
+put-requires c κs = search needs
 
 returns : tie.Need-returns
 returns c = search needs
@@ -28,7 +28,7 @@ latin1-of-spec =
     (tie.spec
     is-utf8-requires
     points-of-requires
-    slice-aggregate-write-all
-    write-all-requires
     returns
+    slice-aggregate-put
+    put-requires
     returns-2)

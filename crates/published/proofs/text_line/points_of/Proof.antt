@@ -41,26 +41,26 @@ to-hex-requires c κs = search needs
 mul-end : tie.Need-mul-end
 mul-end c = search needs
 
-sub-write-all : tie.Need-sub-write-all
-sub-write-all c = search needs
+sub-put : tie.Need-sub-put
+sub-put c = search needs
 
-part-write-all-start : tie.Need-part-write-all-start
-part-write-all-start c = search needs
+part-put-start : tie.Need-part-put-start
+part-put-start c = search needs
 
-part-write-all-end : tie.Need-part-write-all-end
-part-write-all-end c = search needs
+part-put-end : tie.Need-part-put-end
+part-put-end c = search needs
 
-write-all-requires : tie.Need-write-all-requires
-write-all-requires c κs = search needs
+put-requires : tie.Need-put-requires
+put-requires c κs = search needs
 
 enum-told : tie.Need-enum-told
 enum-told c = search needs
 
-slice-aggregate-write-all : tie.Need-slice-aggregate-write-all
-slice-aggregate-write-all c = search needs
+slice-aggregate-put : tie.Need-slice-aggregate-put
+slice-aggregate-put c = search needs
 
-write-all-requires-2 : tie.Need-write-all-requires-2
-write-all-requires-2 c κs = search needs
+put-requires-2 : tie.Need-put-requires-2
+put-requires-2 c κs = search needs
 
 returns-2 : tie.Need-returns-2
 returns-2 c = search needs
@@ -83,12 +83,12 @@ points-of-spec =
     slice-aggregate-to-hex
     to-hex-requires
     mul-end
-    sub-write-all
-    part-write-all-start
-    part-write-all-end
-    write-all-requires
+    sub-put
+    part-put-start
+    part-put-end
+    put-requires
     enum-told
-    slice-aggregate-write-all
-    write-all-requires-2
+    slice-aggregate-put
+    put-requires-2
     returns-2
     returns-3)

@@ -1,10 +1,10 @@
--- `lines::input::next` meets its contract.
+-- `lines::input::finish` meets its contract.
 use mathlib.Core.Path.{_≡_}
 use lib.ListN.{length}
 use Rattle.lines.specs.Held.{Held}
 use borrow.Author.Needs.{needs}
-use Rattle.lines.proofs.input.next.Statement.{statement}
-use Rattle.lines.proofs.input.next.Tie as tie
+use Rattle.lines.proofs.input.finish.Statement.{statement}
+use Rattle.lines.proofs.input.finish.Tie as tie
 
 -- The loop's invariant: the reader and its buffers go together, and the buffers keep their lengths. The measure is the turns that are left. Assumes nothing.
 
@@ -62,8 +62,8 @@ same-length-6 c = search needs
 returns-3 : tie.Need-returns-3 Inv-loop μ-loop
 returns-3 c = search needs
 
-pub next-spec : {M : Type 1} → statement M
-next-spec =
+pub finish-spec : {M : Type 1} → statement M
+finish-spec =
     tie.close
     (tie.spec
     Inv-loop
