@@ -3,6 +3,7 @@ mod hulmbax;
 mod lean;
 mod rows;
 mod time;
+mod worst;
 
 use rows::Row;
 use std::process::ExitCode;
@@ -23,12 +24,20 @@ const HEAD: [&str; COLUMNS] = [
 ];
 
 fn main() -> ExitCode {
-    let rounds = std::env::args().nth(1).and_then(|n| n.parse().ok()).unwrap_or(40);
+    let words: Vec<String> = std::env::args().skip(1).collect();
+    if words.first().is_some_and(|w| w == "worst") {
+        let seconds = words.get(1).and_then(|n| n.parse().ok()).unwrap_or(60.0);
+        let only = words.get(2).map_or("", |w| w.as_str());
+        return status(worst::worst(seconds, only));
+    }
+    let rounds = words.first().and_then(|n| n.parse().ok()).unwrap_or(40);
     let clearing = time::clearing(hulmbax::WORKSPACE, rounds);
     println!("Least of {rounds} runs. Lengths of schema and value in bytes; then nanoseconds per call,");
     println!("nanoseconds per byte of value (B), and the crate's time over Hulmbax's. crate: the schema");
     println!("frame is read in each call; kept: once for all. Hulmbax reads and checks it in each call,");
-    println!("and leaves its workspace of 65,536 bytes zero in each; a fill of so many takes {clearing:.0} ns.");
+    println!(
+        "and leaves its workspace of 65,536 bytes zero in each; a fill of so many takes {clearing:.0} ns."
+    );
     println!("No buffer is cleared before a call.");
     let tables: [(&str, Vec<Row>); 5] = [
         ("Frames", rows::rows()),
@@ -39,7 +48,11 @@ fn main() -> ExitCode {
     ];
     let differ: usize = tables.iter().map(|(title, rows)| table(title, rows, rounds)).sum();
     println!("\n{differ} rows in which the answers differ");
-    if differ == 0 { ExitCode::SUCCESS } else { ExitCode::FAILURE }
+    status(differ == 0)
+}
+
+fn status(right: bool) -> ExitCode {
+    if right { ExitCode::SUCCESS } else { ExitCode::FAILURE }
 }
 
 /// Prints a table; how many of its rows have answers that differ.

@@ -74,7 +74,12 @@ fn as_answer(given: Result<Vec<u8>, u8>) -> Answer {
 }
 
 /// Frame to `Value`, resolution, `Value` to frame.
-fn crate_call(s: &Schema, names: &HashMap<Name, Schema>, frame: &[u8], out: &mut Vec<u8>) -> Result<(), u8> {
+pub fn crate_call(
+    s: &Schema,
+    names: &HashMap<Name, Schema>,
+    frame: &[u8],
+    out: &mut Vec<u8>,
+) -> Result<(), u8> {
     let value = read_value(frame).ok_or(5)?;
     let resolved = value.resolve_with_names(s, names).map_err(|e| number(&e))?;
     out.clear();

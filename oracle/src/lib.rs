@@ -3,6 +3,7 @@ pub mod answer;
 pub mod compare;
 pub mod convert;
 pub mod demand3;
+pub mod differences;
 pub mod frame;
 pub mod generate;
 pub mod lists;

@@ -1,5 +1,5 @@
 //! Program `oracle`: see README.md.
-use oracle::{answer, compare, demand3, lists, selftest};
+use oracle::{answer, compare, demand3, differences, lists, selftest};
 use std::io::{Read, Write};
 use std::path::Path;
 use std::process::ExitCode;
@@ -9,6 +9,7 @@ oracle resolve < FILE                  the lines of program `resolve`, by the cr
 oracle compare N SEED PROGRAM DIR      PROGRAM beside the crate on about N values
 oracle demand3 N SEED PROGRAM DIR      N alike pairs and N repeats through PROGRAM
 oracle selftest                        the oracle beside document 01 and the crate's builder
+oracle differences DOCUMENT LIST       the rows of docs/DIFFERENCES.md on the crate and in the list
 oracle lists SEED DIR                  recorded lists for the repository's programs
 oracle sources                         which files of the crate were compiled";
 
@@ -24,6 +25,7 @@ fn main() -> ExitCode {
             demand3::demand3(number(n) as usize, number(seed), Path::new(program), Path::new(dir))
         }
         ["selftest"] => selftest::selftest(),
+        ["differences", document, list] => differences::differences(Path::new(document), Path::new(list)),
         ["lists", seed, dir] => lists::write(number(seed), Path::new(dir)),
         ["sources"] => {
             print!("{}", apache_avro::SOURCES);

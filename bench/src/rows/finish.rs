@@ -28,6 +28,17 @@ pub fn cut() -> Row {
     row
 }
 
+/// A finish with the fields that must be there, behind an entry that the schema lacks and that takes
+/// long to skip: in all no more entries than are walked for each field.
+pub fn behind_a_long_entry(n: usize) -> Row {
+    let Value::Record(mut items) = record(&mut Rng::new(2026), 1) else { unreachable!() };
+    items.retain(|(name, _)| {
+        ["sail", "seq", "boat", "start", "finish", "elapsed", "id"].contains(&name.as_str())
+    });
+    items.insert(0, ("trace".into(), Value::Array(vec![Value::Null; n - 300])));
+    Row::new("a finish behind a long entry", &schema(), &[Value::Record(items)])
+}
+
 fn nullable(first: Schema, second: Schema) -> Schema {
     Schema::Union(built(vec![first, second]).0)
 }

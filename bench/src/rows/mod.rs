@@ -3,6 +3,7 @@ mod finish;
 mod growth;
 mod many;
 
+pub use finish::behind_a_long_entry;
 pub use growth::{depths, fields, unions_accepted, unions_refused};
 
 use oracle::frame::{Schema, Value, schema_frame, value_frame};
