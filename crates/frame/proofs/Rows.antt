@@ -1,20 +1,22 @@
 -- Document 01's table by what a node takes: the rows of value contents, each with its kinds, and the kinds of schemas without content.
-use Prim.Native.Nat.{ℕ, suc, _+_, _≤_}
-use mathlib.Core.Path.{_≡_, ap, _∙_}
-use mathlib.Core.List.{List, [], _∷_, List·Memᴰ, List·Memᴰ·not-nil, List·Memᴰ·cases-cons}
-use mathlib.Core.Logic.{_⊎_, inl, inr}
-use mathlib.Core.Bool.{Bool, true, false, _&&_}
+use Prim.Native.Nat.{ℕ, suc, _+_, _≤_, _<_}
+use mathlib.Core.Path.{_≡_, refl, ap, _∙_}
+use mathlib.Core.List.{List, [], _∷_, List·Memᴰ, List·Memᴰ·head, List·Memᴰ·tail, List·Memᴰ·not-nil, List·Memᴰ·cases-cons}
+use mathlib.Core.Logic.{_↔_, _⊎_, inl, inr}
+use mathlib.Core.Bool.{Bool, true, false, _&&_, _||_, not}
 use native.Mathlib.Omega.{arith}
 use lib.Dec.{T, leb, ltb, eqb, leb→le, eqb→eq}
+use borrow.Author.Tests.{leb-true, eqb-true}
 use lib.ListN.{length, length-append}
 use lib.Ieee.Fits.{and-l, and-r}
-use Rattle.base.proofs.AllBelow.{allBelow}
+use Rattle.base.proofs.AllBelow.{allBelow, allBelow-lookup}
 use Rattle.number.specs.Number.{bytesOf}
 use Rattle.number.proofs.Laws.{length-bytesOf}
 use Rattle.utf8.specs.Utf8.{isUtf8}
 use Rattle.frame.specs.Kind
 use Rattle.frame.specs.Tree.{Value, kindOf, octets}
 use Rattle.frame.specs.ValueFrame.{Content, wide, flag, counted, text, plain, array, map, union, entries, symbol, unknown, table, content, writeText, writeScalar, writeOctets, encodeValue}
+use Rattle.frame.specs.SchemaFrame.{bare}
 use Rattle.frame.proofs.ContentTable.{each-content}
 use Rattle.frame.proofs.RoundTrip.{held, scalarHeld, octetsHeld}
 
@@ -250,3 +252,50 @@ kind-known (Value.Array vs) d h = omega arith
 kind-known (Value.Map es) d h = omega arith
 kind-known (Value.Record es) d h = omega arith
 kind-known (Value.Union i v) d h = omega arith
+
+-- ---- schemas without content: 00 to 07 and 10 to 18
+
+unfoldable pub contentless : List ℕ
+contentless =
+    0x00 ∷ 0x01 ∷ 0x02 ∷ 0x03 ∷ 0x04 ∷ 0x05 ∷ 0x06 ∷ 0x07 ∷ 0x10 ∷ 0x11 ∷ 0x12 ∷ 0x13 ∷ 0x14 ∷ 0x15 ∷ 0x16 ∷ 0x17 ∷ 0x18 ∷ []
+
+among : ℕ → List ℕ → Bool
+among k [] = false
+among k (x ∷ xs) = eqb k x || among k xs
+
+among-there : (k : ℕ) (xs : List ℕ) → T (among k xs) → List·Memᴰ k xs
+unfolding among
+among-there k [] h = absurd h
+among-there k (x ∷ xs) h = go (eqb k x) (λ e. eqb-true k x e) h (λ t. among-there k xs t)
+  where
+    go : (b : Bool) → (b ≡ true → k ≡ x) → T (b || among k xs) → (T (among k xs) → List·Memᴰ k xs) → List·Memᴰ k (x ∷ xs)
+    go true e t f = List·Memᴰ·head (e refl)
+    go false e t f = List·Memᴰ·tail (f t)
+
+bare-small : (k : ℕ) → T (bare k) → k < 25
+bare-small k h = go (leb k Kind.String) (leb Kind.Date k) (leb k Kind.LocalTimestampNanos) (λ e. leb-true k 7 e) (λ e. leb-true k 24 e) h
+  where
+    go : (a b c : Bool) → (a ≡ true → k ≤ 7) → (c ≡ true → k ≤ 24) → T (a || (b && c)) → k < 25
+    go true b c e f t = omega (arith, e refl)
+    go false true true e f t = omega (arith, f refl)
+    go false true false e f t = absurd t
+    go false false c e f t = absurd t
+
+bare-holds : T (allBelow 25 (λ k. not (bare k) || among k contentless))
+unfolding allBelow among contentless
+bare-holds = tt
+
+contentless-hold : T (all bare contentless)
+unfolding all contentless
+contentless-hold = tt
+
+pub bare-kinds : (k : ℕ) → T (bare k) ↔ List·Memᴰ k contentless
+bare-kinds k = (there, all-lookup bare contentless contentless-hold k)
+  where
+    pick : (b c : Bool) → T (not b || c) → T b → T c
+    pick true c h t = h
+    pick false c h t = absurd t
+
+    there : T (bare k) → List·Memᴰ k contentless
+    there h =
+        among-there k contentless (pick (bare k) (among k contentless) (allBelow-lookup 25 (λ k. not (bare k) || among k contentless) bare-holds k (bare-small k h)) h)
