@@ -12,7 +12,7 @@ use lib.ListN.{length, getD}
 use borrow.Author.Tests.{eq-eqb, ne-eqb, lt-ltb, le-ltb, eqb-true}
 use Rattle.base.specs.Base.{if_then_else_, ok, stop, after, accepted}
 use Rattle.frame.specs.Kind
-use Rattle.frame.specs.Tree.{Value, Schema, UuidForm, Fields, Variants, kindOf, peel}
+use Rattle.frame.specs.Tree.{Value, Schema, UuidForm, Fields, Variants, variant, kindOf, peel, schemaKind}
 use Rattle.avro.specs.Union.{Trial, noTrial, schema-to-base-schemakind, unnamedKind, namedKind, lookupKind, tableLookup, mustBeTried, takeVariant, unnamedVariant, takes, namedVariant, firstThatResolves, choose, find-schema-with-known-schemata, inUnion, resolve-union}
 use Rattle.avro.specs.Resolve.{resolve, trials}
 use Rattle.avro.proofs.UnionLaws.{none-some, take-accepted, take-untried, take-refused, first-none, first-at, first-is, first-missed, takes-by, takes-is, named-none, named-at, named-is, named-missed}
@@ -23,6 +23,16 @@ Resolves ts i = accepted (getD ts i noTrial .outcome) ≡ true
 
 abbrev pub Fails : List Trial → ℕ → Type 0
 Fails ts i = accepted (getD ts i noTrial .outcome) ≡ false
+
+-- ---- the trials: each variant in its order, with its kind, its base kind, and what comes of resolving the value against it
+
+pub trial-first : (s : Schema) (vs : Variants) (v : Value) → getD (trials (variant s vs) v) 0 noTrial ≡ record { kind = schemaKind s; base = schema-to-base-schemakind s; outcome = resolve s v }
+unfolding resolve
+trial-first s vs v = refl
+
+pub trial-later : (s : Schema) (vs : Variants) (v : Value) (i : ℕ) → getD (trials (variant s vs) v) (suc i) noTrial ≡ getD (trials vs v) i noTrial
+unfolding resolve
+trial-later s vs v i = refl
 
 -- ---- "Among the named variants the first that resolves ends the search."
 
