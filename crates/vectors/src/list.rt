@@ -1,17 +1,21 @@
 // The lines of a list of recorded answers, one by one.
+use lines::output::put;
+use lines::output::put_decimal;
 ghost use lib.ListN.{length};
 ghost use mathlib.Core.Path.{_≡_};
 ghost use Prim.Native.Nat.{_≤_, _<_};
 ghost use Rattle.vectors.specs.Buffers.{Buffers, Replayed};
 
 // How far the list is replayed: the length of the last schema's frame, the length of the answer's line to the last value without its
-// newline, the lines read, the answers compared, and those that differ. The last three would begin anew past 2^64, which no list reaches.
+// newline, the lines read, the answers compared, and those that differ; and whether every write so far went through. The three counts would
+// begin anew past 2^64, which no list reaches.
 pub struct Replay {
     pub schema: usize,
     pub got: usize,
     pub lines: u64,
     pub compared: u64,
     pub differ: u64,
+    pub ok: bool,
 }
 
 pub fn start() -> Replay
@@ -23,6 +27,7 @@ pub fn start() -> Replay
         lines: 0,
         compared: 0,
         differ: 0,
+        ok: true,
     }
 }
 
@@ -55,14 +60,14 @@ fn number(line: &[u8]) -> usize
 }
 
 // The line's place in the list, the crate's answer there, and the program's.
-fn report(place: u64, line: &[u8], got: &[u8]) {
-    io::write_all(1, b"line ");
-    io::print_decimal(1, place);
-    io::write_all(1, b": expected ");
-    io::write_all(1, line);
-    io::write_all(1, b", got ");
-    io::write_all(1, got);
-    io::write_all(1, b"\n");
+fn report(ok: bool, place: u64, line: &[u8], got: &[u8]) -> bool {
+    let ok = put(ok, b"line ");
+    let ok = put_decimal(ok, place);
+    let ok = put(ok, b": expected ");
+    let ok = put(ok, line);
+    let ok = put(ok, b", got ");
+    let ok = put(ok, got);
+    put(ok, b"\n")
 }
 
 fn compare(r: Replay, line: &[u8], got: &[u8], counts: &mut [u64]) -> Replay
@@ -79,15 +84,16 @@ fn compare(r: Replay, line: &[u8], got: &[u8], counts: &mut [u64]) -> Replay
             lines: r.lines,
             compared,
             differ: r.differ,
+            ok: r.ok,
         };
     }
-    report(r.lines, line, got);
     Replay {
         schema: r.schema,
         got: r.got,
         lines: r.lines,
         compared,
         differ: std::num::wrapping_add_u64(r.differ, 1),
+        ok: report(r.ok, r.lines, line, got),
     }
 }
 
@@ -117,6 +123,7 @@ fn schema_line(r: Replay, line: &[u8], schema: &mut [u8]) -> Replay
         lines: r.lines,
         compared: r.compared,
         differ: r.differ,
+        ok: r.ok,
     }
 }
 
@@ -141,6 +148,7 @@ fn value_line(
         lines: r.lines,
         compared: r.compared,
         differ: r.differ,
+        ok: r.ok,
     }
 }
 
@@ -158,6 +166,7 @@ fn next(r: Replay) -> Replay
         lines: std::num::wrapping_add_u64(r.lines, 1),
         compared: r.compared,
         differ: r.differ,
+        ok: r.ok,
     }
 }
 

@@ -4,6 +4,8 @@
 mod list;
 
 use crate::list::Replay;
+use lines::output::put;
+use lines::output::put_decimal;
 ghost use lib.ListN.{length};
 ghost use mathlib.Core.Path.{_≡_};
 ghost use Rattle.vectors.specs.Buffers.{Buffers};
@@ -46,28 +48,48 @@ fn run(
 }
 
 // A line with a count behind its words.
-fn counted(words: &[u8], n: u64) {
-    io::write_all(1, words);
-    io::print_decimal(1, n);
-    io::write_all(1, b"\n");
+fn counted(ok: bool, words: &[u8], n: u64) -> bool {
+    let ok = put(ok, words);
+    let ok = put_decimal(ok, n);
+    put(ok, b"\n")
+}
+
+// A line for a number that the list's refusals have, and how many have it.
+fn refusal(ok: bool, number: u64, n: u64) -> bool {
+    let ok = put(ok, b"refused with ");
+    let ok = put_decimal(ok, number);
+    counted(ok, b": ", n)
 }
 
 // How many of the list's answers are refusals with each number that it has.
-fn refusals(counts: &[u64])
+fn refusals(first: bool, counts: &[u64])
     requires { ⌜ length (now counts) ≡ 100 ⌝ }
 {
+    let mut ok = first;
     let mut n: usize = 1;
     while n < 100 {
         if 0 < counts[n] {
-            io::write_all(1, b"refused with ");
-            io::print_decimal(1, n as u64);
-            counted(b": ", counts[n]);
+            ok = refusal(ok, n as u64, counts[n]);
         }
         n += 1;
     }
 }
 
+// How many answers were compared and differ, and how many of the list's are accepted.
+fn totals(t: Replay, accepted: u64) -> bool {
+    let ok = put_decimal(t.ok, t.compared);
+    let ok = put(ok, b" answers compared, ");
+    let ok = put_decimal(ok, t.differ);
+    let ok = put(ok, b" differ\n");
+    counted(ok, b"accepted: ", accepted)
+}
+
 fn main() {
+    if lines::output::usage(
+        b"usage: vectors < LIST\nReads a list of recorded answers from standard input. It takes no arguments.\n",
+    ) {
+        return;
+    }
     let mut block = [0u8; 65536];
     let mut line = [0u8; 131074];
     let mut schema = [0u8; 65536];
@@ -86,10 +108,6 @@ fn main() {
         &mut out,
         &mut counts,
     );
-    io::print_decimal(1, t.compared);
-    io::write_all(1, b" answers compared, ");
-    io::print_decimal(1, t.differ);
-    io::write_all(1, b" differ\n");
-    counted(b"accepted: ", counts[0]);
-    refusals(&counts);
+    let ok = totals(t, counts[0]);
+    refusals(ok, &counts);
 }
