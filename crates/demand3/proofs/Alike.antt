@@ -392,7 +392,7 @@ answers-same schema a b tree e p l buffer workspace =
     (ap (λ (r : Result (List ℕ)). if ltb workspace workspaceSize then stop 1 else r) (checked-same tree p (l .left) (l .right) (l .equal) (λ r. checkedResult buffer (encodeValue r))))
 
 -- what two calls show of one answer
-pub one-answer : (x y : Result (List ℕ)) → x ≡ y → (buffer workspace buffer₁ workspace₁ buffer₂ workspace₂ : List ℕ) (r₁ r₂ : Resolved)
+one-answer : (x y : Result (List ℕ)) → x ≡ y → (buffer workspace buffer₁ workspace₁ buffer₂ workspace₂ : List ℕ) (r₁ r₂ : Resolved)
     → r₁ ≡ resolvedOf x → buffer₁ ≡ bufferAfter x buffer → workspace₁ ≡ workspaceAfter x workspace
     → r₂ ≡ resolvedOf y → buffer₂ ≡ bufferAfter y buffer → workspace₂ ≡ workspaceAfter y workspace
     → (r₁ ≡ r₂) × (buffer₁ ≡ buffer₂) × (workspace₁ ≡ workspace₂)
