@@ -1,12 +1,11 @@
 -- Every answer fits its line.
 use Prim.Native.Nat.{ℕ, _/_, _%_, _≤_}
-use mathlib.Core.Path.{_≡_, refl, sym, ap, _∙_, subst}
+use mathlib.Core.Path.{_≡_, sym, ap, _∙_, subst}
 use mathlib.Core.List.{List, [], _∷_, _++_}
 use mathlib.Core.Bool.{Bool, true, false}
 use native.Mathlib.Omega.{arith}
 use lib.Dec.{ltb}
 use lib.ListN.{length, take, drop}
-use lib.Seq.{take-at}
 use Rattle.base.specs.Base.{if_then_else_, Result, ok, stop}
 use Rattle.uuid.specs.Rfc4122.{smallDigit}
 use Rattle.hex.specs.Hex.{decimal}

@@ -1,26 +1,25 @@
 -- Number 4 as document 01 says it: in a sound schema some default that its union's first variant accepts becomes longer than 4,096 bytes there.
 use Prim.Native.Nat.{ℕ, _<_}
-use mathlib.Core.Path.{_≡_, refl, sym, ap, _∙_}
-use mathlib.Core.List.{List, []}
+use mathlib.Core.Path.{_≡_, refl, sym, _∙_}
+use mathlib.Core.List.{List}
 use mathlib.Core.Option.{Option, none, some}
-use mathlib.Core.Bool.{Bool, true, false, _&&_, _||_, not, and-false}
+use mathlib.Core.Bool.{Bool, true, false, _&&_, not, and-false}
 use native.Mathlib.Omega.{arith}
 use lib.Dec.{T, leb, eqb, eqb→eq, nleb→lt}
 use lib.Arith.{lt→nleb}
 use lib.ListN.{length}
 use lib.Ieee.Bits.{is-false}
 use lib.Ieee.Fits.{and-l}
-use Rattle.base.specs.Base.{if_then_else_, Result, ok, stop, after}
+use Rattle.base.specs.Base.{if_then_else_, ok, stop, after}
 use Rattle.number.specs.Number.{bytesOf}
 use Rattle.text.specs.Text.{Text}
-use Rattle.scalar.specs.Conversion.{inInt, finiteDouble}
 use Rattle.frame.specs.Kind
 use Rattle.frame.specs.Tree.{Value, Schema, Fields, Variants, noFields, field, noVariants, variant, kindOf, is, peel, schemaKind}
 use Rattle.frame.specs.ValueFrame.{encodeValue, writeScalar, table}
 use Rattle.frame.specs.Sound.{keysRise, schemaSound, fieldsSound, variantsSound, defaultAllowed, defaultKinds, defaultScalar}
 use Rattle.frame.proofs.SoundLaws.{sound-union, sound-variant, sound-field}
 use Rattle.types.specs.Types.{Outcome}
-use Rattle.avro.specs.Resolve.{resolve, startDefault, trials, first}
+use Rattle.avro.specs.Resolve.{resolve, startDefault, first}
 use Rattle.avro.specs.Defaults.{shortStart, shortDefault, defaultsShort, fieldDefaultsShort, variantDefaultsShort}
 
 mutual

@@ -3,7 +3,7 @@ use Prim.Native.Nat.{ℕ, _≤_}
 use mathlib.Core.Path.{_≡_, refl, sym, ap, _∙_, subst}
 use mathlib.Core.List.{List, [], _∷_}
 use mathlib.Core.Option.{some}
-use mathlib.Core.Bool.{Bool, true, false, _&&_, _||_, not}
+use mathlib.Core.Bool.{Bool, true, false, _||_, not}
 use lib.Dec.{T, ltb, le→leb, nltb→le}
 use lib.Arith.{le→nltb}
 use lib.ListN.{length, take}
@@ -18,9 +18,8 @@ use Rattle.avro.specs.Resolve.{resolve}
 use Rattle.avro.specs.Defaults.{defaultsShort}
 use Rattle.hulmbax.specs.Answer.{answer, checkedSchema, checkedValue, checkedResult, bufferAfter, workspaceSize}
 use Rattle.hulmbax.specs.Entry.{resolvedOf}
-use Rattle.hulmbax.specs.declared.Resolved.the-variants.{Accepted, Refused}
+use Rattle.hulmbax.specs.declared.Resolved.the-variants.{Accepted}
 use Rattle.hulmbax.proofs.Told.{ok-is, buffer-accepted}
-use Rattle.demand3.specs.Demand3.{nullablePairs, noStringMeets}
 use Rattle.demand3.specs.Claims.{Called, Suits, Fits, Repeat, standing, Repeated, AllGive, Repeats}
 use Rattle.frame.proofs.RoundTrip.{held, decode-encode}
 use Rattle.frame.proofs.ReadHeld.{decode-held, schema-held}

@@ -1,5 +1,5 @@
 -- An instance of each claim of demand 3, with nothing left to assume: the starred nullable Double of document 01, and a record with and without a further field.
-use Prim.Native.Nat.{ℕ, _≤_}
+use Prim.Native.Nat.{ℕ}
 use native.Mathlib.Omega.{arith}
 use mathlib.Core.Path.{_≡_, refl, sym, ap, _∙_}
 use mathlib.Core.List.{List, [], _∷_}
@@ -9,9 +9,8 @@ use lib.ListN.{length, take, replicate, length-replicate}
 use Rattle.base.specs.Base.{ok}
 use Rattle.number.specs.Number.{allBytes}
 use Rattle.frame.specs.Kind
-use Rattle.frame.specs.Tree.{Value, Schema, Fields, variant, noVariants, field, noFields, entry, noEntries}
+use Rattle.frame.specs.Tree.{Value, Schema, variant, noVariants, field, noFields, entry, noEntries}
 use Rattle.frame.specs.ValueFrame.{decodeValue}
-use Rattle.frame.specs.SchemaFrame.{decodeSchema}
 use Rattle.hulmbax.specs.Answer.{answer, bufferAfter, workspaceAfter, workspaceSize}
 use Rattle.hulmbax.specs.Entry.{resolvedOf}
 use Rattle.hulmbax.specs.Finishes.{hex}

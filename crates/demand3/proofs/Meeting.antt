@@ -1,11 +1,11 @@
 -- What meets, by document 01's sentences ("Value and schema meet from the roots down ..."): `meetings P` says that P holds of all that meet, and of nothing else.
 use Prim.Native.Nat.{ℕ}
-use mathlib.Core.Path.{_≡_, refl, sym, ap, subst}
+use mathlib.Core.Path.{_≡_, refl, ap, subst}
 use mathlib.Core.List.{List}
 use mathlib.Core.Option.{Option, none, some}
-use mathlib.Core.Bool.{Bool, true, false, _&&_, _||_, not}
+use mathlib.Core.Bool.{Bool, true, false, _||_, not}
 use lib.Dec.{T, eqb}
-use lib.Ieee.Bits.{is-true, is-false}
+use lib.Ieee.Bits.{is-false}
 use lib.Ieee.Fits.{and-l, and-r, and-i}
 use Rattle.base.specs.Base.{if_then_else_}
 use Rattle.text.specs.Text.{Text}

@@ -1,6 +1,6 @@
 -- What matching says, sentence by sentence (document 01, "A value matches a schema when ..."), whatever judges a Decimal's length: so it holds of fitting too.
 use Prim.Native.Nat.{ℕ, zero, suc, _<_}
-use mathlib.Core.Path.{_≡_, refl, sym, ap, _∙_}
+use mathlib.Core.Path.{_≡_, refl}
 use mathlib.Core.List.{List, [], _∷_}
 use mathlib.Core.Option.{Option, some}
 use mathlib.Core.Bool.{Bool, true, false, _&&_, _||_}

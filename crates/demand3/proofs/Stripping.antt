@@ -1,6 +1,6 @@
 -- What stripping takes away is exactly what stands under names that the schema lacks: more or less of that makes records alike, and alike records agree in all else.
 use Prim.Native.Nat.{ℕ}
-use mathlib.Core.Path.{_≡_, refl, sym, ap, _∙_, subst}
+use mathlib.Core.Path.{_≡_, refl, sym, ap, _∙_}
 use mathlib.Core.List.{List, [], _∷_}
 use mathlib.Core.Option.{Option, none, some, Option·map}
 use mathlib.Core.Bool.{Bool, true, false, _||_, not}
@@ -10,7 +10,7 @@ use lib.Ieee.Bits.{is-true, is-false}
 use Rattle.base.specs.Base.{if_then_else_}
 use Rattle.text.specs.Text.{Text, same}
 use Rattle.frame.specs.Kind
-use Rattle.frame.specs.Tree.{Value, Values, Entries, Schema, Fields, noItems, item, noEntries, entry, noFields, field, noVariants, variant, entries, peel}
+use Rattle.frame.specs.Tree.{Value, Values, Entries, Schema, Fields, item, noEntries, entry, noFields, field, noVariants, variant, entries}
 use Rattle.frame.specs.Sound.{fieldsSound, hasField}
 use Rattle.frame.proofs.SoundLaws.{sound-field}
 use Rattle.avro.specs.Resolve.{lookup}
