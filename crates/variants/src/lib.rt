@@ -195,7 +195,7 @@ pub fn is_at(found: Found, i: usize) -> bool
 }
 
 // The position that a kind table gives for a kind.
-pub fn look_up(s: &[u8], kind: u8) -> Found
+fn look_up(s: &[u8], kind: u8) -> Found
     requires { ⌜ Reads (readList readLead (now s)) ⌝ }
     ensures { λ r. ⌜ r ≡ foundOf (lookupRead kind (readList readLead (now (s .entry)))) ⌝ }
 {
