@@ -45,3 +45,8 @@ supplied r Nothing = record { at = 0; end = 0; filled = r .filled; long = r .lon
 supplied r Again = spent
 supplied r Wait = spent
 supplied r Failed = spent
+
+-- after the search for a new block: as it was, or after a read
+pub data Refilled (r : Reader) : Reader → Type 0 where
+  unread : Refilled r r
+  read : (s : Step) → Refilled r (supplied r s)

@@ -10,7 +10,7 @@ ghost use mathlib.Core.Option.{some};
 ghost use Prim.Native.Nat.{_≤_, _<_};
 ghost use lib.ListN.{length};
 ghost use Rattle.lines.specs.Cut.{lineEnd, hasNewline, firstLine, behindLine};
-ghost use Rattle.lines.specs.Held.{Held, uncut, heldLine, more, isLine, spent as Held·spent, supplied as Held·supplied};
+ghost use Rattle.lines.specs.Held.{Held, uncut, heldLine, more, isLine, Refilled, spent as Held·spent, supplied as Held·supplied};
 
 // How far the input is cut: the block's bytes from `at` to `end` are still to be cut; `filled` characters of the last line are held, none
 // where it is `long`, longer than there is room for; whether it is `whole`; and whether the input is `over`, ended or failed.
@@ -105,6 +105,7 @@ fn refilled(r: Reader, block: &mut [u8]) -> Reader
     requires { ⌜ (r .at ≤ r .end) × (r .end ≤ length (now block)) ⌝ }
     ensures { λ t. ⌜ (t .at ≤ t .end) × (t .end ≤ length (now (block .exit))) × (t .filled ≤ r .filled) ⌝ }
     ensures { λ t. ⌜ (r .at < r .end → uncut t (now (block .exit)) ≡ uncut r (now (block .entry))) ⌝ }
+    ensures { λ t. ⌜ Refilled r t ⌝ }
 {
     if r.at < r.end {
         return r;
