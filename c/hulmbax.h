@@ -59,7 +59,7 @@ enum hulmbax_kind {
     HULMBAX_KIND_DURATION = 0x19
 };
 
-/* What stops a record. An entry answers the number below zero. The numbers are those of document 01,
+/* What stops a record. An entry answers the number below zero. The numbers are those of docs/RULES.md,
  * in its checking order. */
 enum hulmbax_refusal {
     HULMBAX_WORKSPACE_TOO_SHORT = 1,      /* the workspace is shorter than 65,536 bytes */

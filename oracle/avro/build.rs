@@ -4,7 +4,7 @@
 //! with the given text, byte for byte.
 //!
 //! P1 (src/schema/union.rs): accessor and setter for `variant_index` and `named_index`, which
-//!    document 01 calls for.
+//!    the scope calls for.
 //! P2 (src/types.rs): a public wrapper over the private `max_prec_for_len`, for the table test.
 use std::{env, fs, path::Path, path::PathBuf};
 

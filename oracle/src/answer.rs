@@ -1,4 +1,4 @@
-//! The answer to a schema frame and a value frame: the checks of document 01 around the crate's
+//! The answer to a schema frame and a value frame: the checks of the scope around the crate's
 //! `Value::resolve_with_names` with an empty map of names.
 use crate::convert::{Namer, Nans, from_value, to_schema, to_value};
 use crate::frame::{self, Schema};
@@ -15,7 +15,7 @@ use std::panic::{AssertUnwindSafe, catch_unwind};
 
 type Names = HashMap<Name, AvroSchema>;
 
-/// The number of document 01 for an error of the crate.
+/// The number of the scope for an error of the crate.
 pub fn number(e: &Error) -> u8 {
     use Details::*;
     match e.details() {
@@ -70,7 +70,7 @@ pub struct Prepared {
     names: Names,
 }
 
-/// What document 01 asks for, with a result buffer of 65,535 bytes.
+/// What the scope asks for, with a result buffer of 65,535 bytes.
 #[derive(Clone, Debug, PartialEq)]
 pub enum Answer {
     Accepted(Vec<u8>),
@@ -191,7 +191,7 @@ pub fn of_case((schema, values): &Case) -> Vec<Answer> {
     answers(Some(schema), values.iter().map(|v| Some(v.as_slice())))
 }
 
-/// The answers that program `resolve` of document 01 gives to this input.
+/// The answers that program `resolve` of the scope gives to this input.
 pub fn of_input(input: &[u8]) -> Vec<Answer> {
     let lines: Vec<_> = frame::lines(input).into_iter().map(frame::unhex).collect();
     match lines.split_first() {

@@ -1,4 +1,4 @@
-//! From trees of document 01 to those of the crate and back.
+//! From trees of the scope to those of the crate and back.
 use crate::frame::{Field, Schema, Union, Value};
 use apache_avro::{
     Decimal, Duration, Schema as AvroSchema, Uuid,

@@ -1,4 +1,4 @@
-//! Frames of document 01: plain trees, reader, writer, and the checks 2, 3 and 5, written
+//! Frames of the scope: plain trees, reader, writer, and the checks 2, 3 and 5, written
 //! from the document alone (nothing of the crate is used here).
 
 pub const MAX_FRAME: usize = 65_535;

@@ -1,4 +1,4 @@
-//! The answers of apache-avro 0.22.0 on the frames of document 01, and cases to ask it for.
+//! The answers of apache-avro 0.22.0 on the frames of the scope, and cases to ask it for.
 pub mod answer;
 pub mod compare;
 pub mod convert;

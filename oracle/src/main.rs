@@ -8,7 +8,7 @@ const USAGE: &str = "\
 oracle resolve < FILE                  the lines of program `resolve`, by the crate
 oracle compare N SEED PROGRAM DIR      PROGRAM beside the crate on about N values
 oracle demand3 N SEED PROGRAM DIR      N alike pairs and N repeats through PROGRAM
-oracle selftest                        the oracle beside document 01 and the crate's builder
+oracle selftest                        the oracle beside the scope and the crate's builder
 oracle differences DOCUMENT LIST       the rows of docs/DIFFERENCES.md on the crate and in the list
 oracle lists SEED DIR                  recorded lists for the repository's programs
 oracle sources                         which files of the crate were compiled";

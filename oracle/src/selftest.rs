@@ -1,4 +1,4 @@
-//! The oracle itself beside document 01 and the crate's builder of unions.
+//! The oracle itself beside the scope and the crate's builder of unions.
 use crate::answer;
 use crate::convert::{Namer, schema_kind, to_schema};
 use crate::frame::{Schema, hex};
@@ -13,7 +13,7 @@ const UNIONS: usize = 20_000;
 pub fn selftest() -> bool {
     let wrong = [finishes(), precisions(), unions()];
     println!(
-        "oracle: {} of document 01's finishes, {} of max_prec_for_len, {} of {UNIONS} union tables differ",
+        "oracle: {} of the scope's finishes, {} of max_prec_for_len, {} of {UNIONS} union tables differ",
         wrong[0], wrong[1], wrong[2]
     );
     wrong == [0; 3]

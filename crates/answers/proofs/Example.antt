@@ -1,4 +1,4 @@
--- Document 01's worked example of program `resolve`, by computing it.
+-- The rules' worked example of program `resolve`, by computing it.
 use mathlib.Core.Path.{_≡_, refl}
 use Rattle.text.specs.Text.{ascii}
 use Rattle.uuid.specs.Rfc4122

@@ -1,4 +1,4 @@
--- What program `resolve` writes for what it reads (document 01, "Finishes to check by").
+-- What program `resolve` writes for what it reads (docs/RULES.md, "Finishes to check by").
 use mathlib.Core.List.{List, [], _∷_, _++_}
 use Prim.Native.Nat.{ℕ}
 use Rattle.text.specs.Text.{Text}

@@ -1,4 +1,4 @@
--- What stops a leaf, by document 01's numbers: 6, 7, 8, 9, 10, 11, and 12 and 13 before the value is looked at, 14, 15.
+-- What stops a leaf, by the rules' numbers: 6, 7, 8, 9, 10, 11, and 12 and 13 before the value is looked at, 14, 15.
 use Prim.Native.Nat.{ℕ, _≤_, _<_}
 use mathlib.Core.Path.{_≡_, refl}
 use mathlib.Core.List.{List}

@@ -1,4 +1,4 @@
--- Number 4 as document 01 says it: in a sound schema some default that its union's first variant accepts becomes longer than 4,096 bytes there.
+-- Number 4 as docs/RULES.md says it: in a sound schema some default that its union's first variant accepts becomes longer than 4,096 bytes there.
 use Prim.Native.Nat.{ℕ, _<_}
 use mathlib.Core.Path.{_≡_, refl, sym, _∙_}
 use mathlib.Core.List.{List}
@@ -15,7 +15,7 @@ use Rattle.number.specs.Number.{bytesOf}
 use Rattle.text.specs.Text.{Text}
 use Rattle.frame.specs.Kind
 use Rattle.frame.specs.Tree.{Value, Schema, Fields, Variants, noFields, field, noVariants, variant, kindOf, is, peel, schemaKind}
-use Rattle.frame.specs.ValueFrame.{encodeValue, writeScalar, table}
+use Rattle.frame.specs.ValueFrame.{encodeValue, writeScalar, contents}
 use Rattle.frame.specs.Sound.{keysRise, schemaSound, fieldsSound, variantsSound, defaultAllowed, defaultKinds, defaultScalar}
 use Rattle.frame.proofs.SoundLaws.{sound-union, sound-variant, sound-field}
 use Rattle.types.specs.Types.{Outcome}
@@ -93,7 +93,7 @@ plain-short d h = rw (no-union d h)
 
 own-long : (n : Text) (d : Value) (a : Schema) (vs : Variants) (ks : List (ℕ × ℕ)) (ns : List ℕ) (fs : Fields)
     → shortDefault (Schema.Union (variant a vs) ks ns) (some d) ≡ false → LongField (field n (some d) (Schema.Union (variant a vs) ks ns) fs)
-unfolding shortDefault shortStart resolve first after kindOf peel encodeValue writeScalar table bytesOf
+unfolding shortDefault shortStart resolve first after kindOf peel encodeValue writeScalar contents bytesOf
 own-long n d a vs ks ns fs e = go (eqb (schemaKind a) Kind.Null) refl e
   where
     size : (r : Value) → resolve a d ≡ ok r → T (not (eqb (schemaKind a) Kind.Null)) → (b : Bool) → leb (length (encodeValue r)) 4096 ≡ b → b ≡ false

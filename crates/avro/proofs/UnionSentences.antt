@@ -1,4 +1,4 @@
--- Document 01's sentences on the choice of a union's variant (src/schema/union.rs), each in both directions: what the definition
+-- The rules' sentences on the choice of a union's variant (src/schema/union.rs), each in both directions: what the definition
 -- gives where the sentence applies, and that what the definition gives is what the sentence says.
 use Prim.Native.Nat.{ℕ, zero, suc, _≤_, _<_}
 use mathlib.Core.Path.{_≡_, refl, sym, ap, _∙_}

@@ -1,10 +1,10 @@
--- Document 01's sentences on arrays, maps and records: which refusal is given, the last value under a name, and what a missing
+-- The rules' sentences on arrays, maps and records: which refusal is given, the last value under a name, and what a missing
 -- field takes. Where a sentence can be read in two directions, both stand.
 use Prim.Native.Nat.{ℕ}
 use mathlib.Core.Path.{_≡_, refl, sym, ap, _∙_}
 use mathlib.Core.List.{List, [], _∷_}
 use mathlib.Core.Logic.{_⊎_, inl, inr}
-use mathlib.Core.Option.{Option, none, some}
+use mathlib.Core.Option.{Option, none, some, orElse}
 use mathlib.Core.Bool.{Bool, true, false}
 use native.Mathlib.Omega.{arith}
 use borrow.Author.Tests.{eq-eqb, ne-eqb}
@@ -14,7 +14,7 @@ use Rattle.text.proofs.TextLaws.{same-refl, same→≡}
 use Rattle.frame.specs.Kind
 use Rattle.frame.specs.Tree.{Value, Values, Entries, Schema, Fields, Variants, noItems, item, noEntries, entry, noFields, field, variant, kindOf, items, entries, peel, schemaKind}
 use Rattle.types.specs.Types.{Outcome}
-use Rattle.avro.specs.Resolve.{eachItem, eachEntry, resolve-array, resolve-map, orElse, lookup, first, fieldValue, resolve-record, resolve, resolveFields, startDefault}
+use Rattle.avro.specs.Resolve.{eachItem, eachEntry, resolve-array, resolve-map, lastUnder, first, fieldValue, resolve-record, resolve, resolveFields, startDefault}
 use Rattle.avro.proofs.UnionLaws.{none-some}
 
 -- ---- "the first met in the walk is given"
@@ -224,7 +224,7 @@ map-six s v h = rw (ne-eqb (kindOf (peel v)) Kind.Map h)
 
 -- a field's value, resolved against its schema
 unfoldable pub fieldOutcome : Text → Option Value → Schema → Entries → Outcome
-fieldOutcome n d s es = after (fieldValue (lookup n es) d (λ w. startDefault s w)) (λ v. resolve s v)
+fieldOutcome n d s es = after (fieldValue (lastUnder n es) d (λ w. startDefault s w)) (λ v. resolve s v)
 
 unfoldable pub fieldOutcomes : Fields → Entries → List Outcome
 fieldOutcomes noFields es = []
@@ -238,7 +238,7 @@ after-after (stop n) f g = refl
 fields-step : (n : Text) (d : Option Value) (s : Schema) (fs : Fields) (es : Entries)
     → resolveFields (field n d s fs) es ≡ after (fieldOutcome n d s es) (λ r. after (resolveFields fs es) (λ rs. ok (entry n r rs)))
 unfolding resolve fieldOutcome
-fields-step n d s fs es = after-after (fieldValue (lookup n es) d (λ w. startDefault s w)) (λ v. resolve s v) (λ r. after (resolveFields fs es) (λ rs. ok (entry n r rs)))
+fields-step n d s fs es = after-after (fieldValue (lastUnder n es) d (λ w. startDefault s w)) (λ v. resolve s v) (λ r. after (resolveFields fs es) (λ rs. ok (entry n r rs)))
 
 module _ (es : Entries) (e : ℕ) where
   fields-refused : (fs : Fields) → FirstRefusal e (fieldOutcomes fs es) → resolveFields fs es ≡ stop e
@@ -319,9 +319,9 @@ unfoldable pub LastUnder : Text → Value → Entries → Type 0
 LastUnder n v noEntries = ⊥
 LastUnder n v (entry m w es) = LastUnder n v es ⊎ ((m ≡ n) × ((w ≡ v) × Absent n es))
 
-lookup-if : (n m : Text) (v : Value) (es : Entries) → lookup n (entry m v es) ≡ orElse (lookup n es) (if same m n then some v else none)
-unfolding lookup
-lookup-if n m v es = refl
+lastUnder-if : (n m : Text) (v : Value) (es : Entries) → lastUnder n (entry m v es) ≡ orElse (lastUnder n es) (if same m n then some v else none)
+unfolding lastUnder
+lastUnder-if n m v es = refl
 
 differ : (m n : Text) → (m ≡ n → ⊥) → same m n ≡ false
 differ m n h = go (same m n) refl
@@ -333,42 +333,42 @@ differ m n h = go (same m n) refl
 equal : (m n : Text) → m ≡ n → same m n ≡ true
 equal m n e = ap (λ x. same x n) e ∙ same-refl n
 
-pub absent-none : (n : Text) (es : Entries) → Absent n es → lookup n es ≡ none
-unfolding Absent lookup orElse
+pub absent-none : (n : Text) (es : Entries) → Absent n es → lastUnder n es ≡ none
+unfolding Absent lastUnder orElse
 absent-none n noEntries h = refl
-absent-none n (entry m w es) h = lookup-if n m w es ∙ ap (λ x. orElse x (if same m n then some w else none)) (absent-none n es (h .1)) ∙ ap (λ b. orElse none (if b then some w else none)) (differ m n (h .0))
+absent-none n (entry m w es) h = lastUnder-if n m w es ∙ ap (λ x. orElse x (if same m n then some w else none)) (absent-none n es (h .1)) ∙ ap (λ b. orElse none (if b then some w else none)) (differ m n (h .0))
 
-pub last-counts : (n : Text) (v : Value) (es : Entries) → LastUnder n v es → lookup n es ≡ some v
+pub last-counts : (n : Text) (v : Value) (es : Entries) → LastUnder n v es → lastUnder n es ≡ some v
 unfolding LastUnder orElse
 last-counts n v noEntries h = absurd h
-last-counts n v (entry m w es) (inl h) = lookup-if n m w es ∙ ap (λ x. orElse x (if same m n then some w else none)) (last-counts n v es h)
+last-counts n v (entry m w es) (inl h) = lastUnder-if n m w es ∙ ap (λ x. orElse x (if same m n then some w else none)) (last-counts n v es h)
 last-counts n v (entry m w es) (inr h) =
-    lookup-if n m w es ∙ ap (λ x. orElse x (if same m n then some w else none)) (absent-none n es (h .1 .1))
+    lastUnder-if n m w es ∙ ap (λ x. orElse x (if same m n then some w else none)) (absent-none n es (h .1 .1))
     ∙ ap (λ b. orElse none (if b then some w else none)) (equal m n (h .0)) ∙ ap some (h .1 .0)
 
-pub none-absent : (n : Text) (es : Entries) → lookup n es ≡ none → Absent n es
+pub none-absent : (n : Text) (es : Entries) → lastUnder n es ≡ none → Absent n es
 unfolding Absent orElse
 none-absent n noEntries h = tt
-none-absent n (entry m w es) h = go (none-absent n es) (lookup n es) refl (same m n) refl
+none-absent n (entry m w es) h = go (none-absent n es) (lastUnder n es) refl (same m n) refl
   where
-    go : (lookup n es ≡ none → Absent n es) → (x : Option Value) → lookup n es ≡ x → (b : Bool) → same m n ≡ b → (m ≡ n → ⊥) × Absent n es
+    go : (lastUnder n es ≡ none → Absent n es) → (x : Option Value) → lastUnder n es ≡ x → (b : Bool) → same m n ≡ b → (m ≡ n → ⊥) × Absent n es
     go rest none p false q = ((λ e. let f = equal m n e in let z : _≡_ {A = ℕ} 0 1 = cc in omega arith), rest p)
-    go rest none p true q = none-some _ w h (lookup-if n m w es ∙ ap (λ x. orElse x (if same m n then some w else none)) p ∙ ap (λ b. orElse none (if b then some w else none)) q)
-    go rest (some v) p b q = none-some _ v h (lookup-if n m w es ∙ ap (λ x. orElse x (if same m n then some w else none)) p)
+    go rest none p true q = none-some _ w h (lastUnder-if n m w es ∙ ap (λ x. orElse x (if same m n then some w else none)) p ∙ ap (λ b. orElse none (if b then some w else none)) q)
+    go rest (some v) p b q = none-some _ v h (lastUnder-if n m w es ∙ ap (λ x. orElse x (if same m n then some w else none)) p)
 
-pub counts-last : (n : Text) (v : Value) (es : Entries) → lookup n es ≡ some v → LastUnder n v es
-unfolding LastUnder orElse lookup
+pub counts-last : (n : Text) (v : Value) (es : Entries) → lastUnder n es ≡ some v → LastUnder n v es
+unfolding LastUnder orElse lastUnder
 counts-last n v noEntries h = none-some none v refl h
-counts-last n v (entry m w es) h = go (counts-last n v es) (lookup n es) refl (same m n) refl
+counts-last n v (entry m w es) h = go (counts-last n v es) (lastUnder n es) refl (same m n) refl
   where
-    go : (lookup n es ≡ some v → LastUnder n v es) → (x : Option Value) → lookup n es ≡ x → (b : Bool) → same m n ≡ b → LastUnder n v (entry m w es)
+    go : (lastUnder n es ≡ some v → LastUnder n v es) → (x : Option Value) → lastUnder n es ≡ x → (b : Bool) → same m n ≡ b → LastUnder n v (entry m w es)
     go rest (some u) p b q =
-        let f : some u ≡ some v = sym (lookup-if n m w es ∙ ap (λ x. orElse x (if same m n then some w else none)) p) ∙ h in
+        let f : some u ≡ some v = sym (lastUnder-if n m w es ∙ ap (λ x. orElse x (if same m n then some w else none)) p) ∙ h in
         inl (rest (p ∙ f))
     go rest none p true q =
-        let f : some w ≡ some v = sym (lookup-if n m w es ∙ ap (λ x. orElse x (if same m n then some w else none)) p ∙ ap (λ b. orElse none (if b then some w else none)) q) ∙ h in
+        let f : some w ≡ some v = sym (lastUnder-if n m w es ∙ ap (λ x. orElse x (if same m n then some w else none)) p ∙ ap (λ b. orElse none (if b then some w else none)) q) ∙ h in
         inr (same→≡ m n (rw q tt), (cc, none-absent n es p))
-    go rest none p false q = none-some _ v (lookup-if n m w es ∙ ap (λ x. orElse x (if same m n then some w else none)) p ∙ ap (λ b. orElse none (if b then some w else none)) q) h
+    go rest none p false q = none-some _ v (lastUnder-if n m w es ∙ ap (λ x. orElse x (if same m n then some w else none)) p ∙ ap (λ b. orElse none (if b then some w else none)) q) h
 
 -- ---- "A missing field takes its default.", 17: "A field is missing without default."
 

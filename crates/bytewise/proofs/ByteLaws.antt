@@ -19,7 +19,7 @@ use Rattle.scalar.specs.declared.Cast.the-variants.{To, Unsuited, OutOfRange}
 use Rattle.frame.specs.Kind
 use Rattle.frame.specs.Tree.{Value, kindOf, number, items, peel}
 use Rattle.frame.specs.Readers.{readMany, readList}
-use Rattle.frame.specs.ValueFrame.{array, union, table, content, itemsOf, readContent, readValue}
+use Rattle.frame.specs.ValueFrame.{array, union, contents, kindContent, itemsOf, readContent, readValue}
 use Rattle.frame.specs.Checks.{Spans}
 use Rattle.frame.proofs.Reading.{bind-some, mapRead, reads-some, reads-eq, not-reads, reads-first, reads-number}
 use Rattle.frame.proofs.Counting.{many-suc, many-zero, list-many, reads-list}
@@ -86,8 +86,8 @@ try-plain (Value.Map es) f = refl
 try-plain (Value.Record es) f = refl
 try-plain (Value.Union i v) f = absurd (f refl)
 
-content-Union : content Kind.Union ≡ union
-unfolding table
+content-Union : kindContent Kind.Union ≡ union
+unfolding contents
 content-Union = refl
 
 -- a Union that was read, and what it holds

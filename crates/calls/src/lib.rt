@@ -1,6 +1,6 @@
 // Calls of the entry: what each of them shows is what the claims of demand 3 speak of.
 use hulmbax::Resolved;
-ghost use Rattle.demand3.specs.Claims.{Called};
+ghost use Rattle.stability.specs.Claims.{Called};
 
 // A call of the entry.
 pub fn call(schema: &[u8], record: &[u8], result: &mut [u8], workspace: &mut [u8]) -> Resolved

@@ -13,7 +13,7 @@ use borrow.Author.Tests.{le-leb, lt-leb, leb-true, leb-false, ne-eqb}
 use Rattle.base.specs.Base.{ok, stop, after}
 use Rattle.number.specs.Number.{bytesOf}
 use Rattle.frame.specs.Tree.{Value, Schema, Variants, variant, is, kindOf, peel, schemaKind}
-use Rattle.frame.specs.ValueFrame.{table, readValue, encodeValue, writeScalar}
+use Rattle.frame.specs.ValueFrame.{contents, readValue, encodeValue, writeScalar}
 use Rattle.frame.specs.SchemaFrame.{readField, readSchema}
 use Rattle.frame.specs.Sound.{schemaSound, defaultAllowed, defaultKinds, defaultScalar, keysRise}
 use Rattle.frame.proofs.Reading.{read-what}
@@ -63,7 +63,7 @@ start-alone t v u h = ap shortStart (start-plain t v u) ∙ short-alone v h
 
 -- Null is short
 short-null : (t : Schema) (vs : Variants) (ks : List (ℕ × ℕ)) (ns : List ℕ) (v : Value) → schemaKind t ≡ 0 → shortStart (startDefault (Schema.Union (variant t vs) ks ns) v) ≡ true
-unfolding shortStart kindOf peel encodeValue writeScalar table bytesOf
+unfolding shortStart kindOf peel encodeValue writeScalar contents bytesOf
 short-null t vs ks ns v e = ap shortStart (start-null t vs ks ns v e)
 
 -- a length that is capped far above 4,096

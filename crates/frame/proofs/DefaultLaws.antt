@@ -1,4 +1,4 @@
--- A default is allowed exactly where it is what document 01's number 3 names.
+-- A default is allowed exactly where it is what the rules' number 3 names.
 use Prim.Native.Nat.{ℕ, zero, suc, _≤_, _<_, _-_, _*_, _/_, _%_, _^_}
 use mathlib.Core.Path.{_≡_, refl, sym, subst}
 use mathlib.Core.Logic.{_↔_}

@@ -1,4 +1,4 @@
--- Number 3 stops a schema exactly where it has one of the faults of document 01's sentence.
+-- Number 3 stops a schema exactly where it has one of the faults of the rules' sentence.
 use Prim.Native.Nat.{ℕ, suc, _≤_, _<_}
 use mathlib.Core.Path.{_≡_, refl, subst}
 use mathlib.Core.List.{List, [], _∷_, List·Memᴰ, List·Memᴰ·head, List·Memᴰ·tail, List·Memᴰ·not-nil, List·Memᴰ·cases-cons}
@@ -317,6 +317,6 @@ mutual
   unsound-variants noVariants e = true-false e
   unsound-variants (variant s vs) e = variant-bad s vs (λ h. unsound-bad s h) (λ h. unsound-variants vs h) e
 
--- number 3 stops a schema exactly where document 01's sentence says so
+-- number 3 stops a schema exactly where the rules' sentence says so
 pub unsound-faulty : (s : Schema) → (schemaSound s ≡ false) ↔ Faulty s
 unsound-faulty s = (unsound-bad s, λ f. is-false (schemaSound s) (not-T (schemaSound s) (faulty-unsound f)))

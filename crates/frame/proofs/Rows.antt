@@ -1,4 +1,4 @@
--- Document 01's table by what a node takes: the rows of value contents, each with its kinds, and the kinds of schemas without content.
+-- The rules' table by what a node takes: the rows of value contents, each with its kinds, and the kinds of schemas without content.
 use Prim.Native.Nat.{ℕ, suc, _+_, _≤_, _<_}
 use mathlib.Core.Path.{_≡_, refl, ap, _∙_}
 use mathlib.Core.List.{List, [], _∷_, List·Memᴰ, List·Memᴰ·head, List·Memᴰ·tail, List·Memᴰ·not-nil, List·Memᴰ·cases-cons}
@@ -15,7 +15,7 @@ use Rattle.number.proofs.Laws.{length-bytesOf}
 use Rattle.utf8.specs.Utf8.{isUtf8}
 use Rattle.frame.specs.Kind
 use Rattle.frame.specs.Tree.{Value, kindOf, octets}
-use Rattle.frame.specs.ValueFrame.{Content, wide, flag, counted, text, plain, array, map, union, entries, symbol, unknown, table, content, writeText, writeScalar, writeOctets, encodeValue}
+use Rattle.frame.specs.ValueFrame.{Content, wide, flag, counted, text, plain, array, map, union, entries, symbol, unknown, contents, kindContent, writeText, writeScalar, writeOctets, encodeValue}
 use Rattle.frame.specs.SchemaFrame.{bare}
 use Rattle.frame.proofs.ContentTable.{each-content}
 use Rattle.frame.proofs.RoundTrip.{held, scalarHeld, octetsHeld}
@@ -55,8 +55,8 @@ takes entries n = false
 takes symbol n = false
 takes unknown n = false
 
-sizes-hold : T (all (λ e. takes (content (e .0)) (e .1)) sizes)
-unfolding all sizes takes table
+sizes-hold : T (all (λ e. takes (kindContent (e .0)) (e .1)) sizes)
+unfolding all sizes takes contents
 sizes-hold = tt
 
 scalar-takes : (c : Content) (n w : ℕ) → T (scalarHeld c n) → T (takes c w) → length (writeScalar c n) ≡ w
@@ -89,12 +89,12 @@ octets-take unknown b w h t = absurd t
 
 -- a value of that kind takes the kind byte and so many more
 pub size-is : (v : Value) (w : ℕ) → List·Memᴰ (kindOf v, w) sizes → (d : ℕ) → T (held v (suc d)) → length (encodeValue v) ≡ suc w
-unfolding held encodeValue kindOf takes table
-size-is v w m d h = go v (all-lookup (λ e. takes (content (e .0)) (e .1)) sizes sizes-hold (kindOf v, w) m) h
+unfolding held encodeValue kindOf takes contents
+size-is v w m d h = go v (all-lookup (λ e. takes (kindContent (e .0)) (e .1)) sizes sizes-hold (kindOf v, w) m) h
   where
-    go : (v : Value) → T (takes (content (kindOf v)) w) → T (held v (suc d)) → length (encodeValue v) ≡ suc w
-    go (Value.Scalar k n) t h = ap suc (scalar-takes (content k) n w h t)
-    go (Value.Octets k b) t h = ap suc (octets-take (content k) b w h t)
+    go : (v : Value) → T (takes (kindContent (kindOf v)) w) → T (held v (suc d)) → length (encodeValue v) ≡ suc w
+    go (Value.Scalar k n) t h = ap suc (scalar-takes (kindContent k) n w h t)
+    go (Value.Octets k b) t h = ap suc (octets-take (kindContent k) b w h t)
     go (Value.Enum i s) t h = absurd t
     go (Value.Array vs) t h = absurd t
     go (Value.Map es) t h = absurd t
@@ -119,8 +119,8 @@ hasLength entries = false
 hasLength symbol = false
 hasLength unknown = false
 
-lengths-hold : T (all (λ k. hasLength (content k)) lengths)
-unfolding all lengths hasLength table
+lengths-hold : T (all (λ k. hasLength (kindContent k)) lengths)
+unfolding all lengths hasLength contents
 lengths-hold = tt
 
 counted-length : (c : Content) (b : List ℕ) → T (hasLength c) → length (writeOctets c b) ≡ 2 + length b
@@ -152,15 +152,15 @@ no-number symbol n t h = t
 no-number unknown n t h = t
 
 pub length-is : (v : Value) → List·Memᴰ (kindOf v) lengths → (d : ℕ) → T (held v (suc d)) → length (encodeValue v) ≡ 3 + length (octets v)
-unfolding held encodeValue kindOf octets hasLength table
-length-is v m d h = go v (all-lookup (λ k. hasLength (content k)) lengths lengths-hold (kindOf v) m) h
+unfolding held encodeValue kindOf octets hasLength contents
+length-is v m d h = go v (all-lookup (λ k. hasLength (kindContent k)) lengths lengths-hold (kindOf v) m) h
   where
     one-more : (n : ℕ) → suc (2 + n) ≡ 3 + n
     one-more n = omega arith
 
-    go : (v : Value) → T (hasLength (content (kindOf v))) → T (held v (suc d)) → length (encodeValue v) ≡ 3 + length (octets v)
-    go (Value.Scalar k n) t h = absurd (no-number (content k) n t h)
-    go (Value.Octets k b) t h = ap suc (counted-length (content k) b t) ∙ one-more (length b)
+    go : (v : Value) → T (hasLength (kindContent (kindOf v))) → T (held v (suc d)) → length (encodeValue v) ≡ 3 + length (octets v)
+    go (Value.Scalar k n) t h = absurd (no-number (kindContent k) n t h)
+    go (Value.Octets k b) t h = ap suc (counted-length (kindContent k) b t) ∙ one-more (length b)
     go (Value.Enum i s) t h = absurd t
     go (Value.Array vs) t h = absurd t
     go (Value.Map es) t h = absurd t
@@ -171,29 +171,29 @@ length-is v m d h = go v (all-lookup (λ k. hasLength (content k)) lengths lengt
 
 -- the bytes of a String are UTF-8
 pub string-utf8 : (b : List ℕ) (d : ℕ) → T (held (Value.Octets Kind.String b) (suc d)) → T (isUtf8 b)
-unfolding held octetsHeld table
+unfolding held octetsHeld contents
 string-utf8 b d h = and-r (ltb (length b) 65536) (isUtf8 b) h
 
 -- those of Bytes, Fixed and Decimal are any
 pub any-bytes : (k : ℕ) → List·Memᴰ k (Kind.Bytes ∷ Kind.Fixed ∷ Kind.Decimal ∷ []) → (b : List ℕ) → T (ltb (length b) 65536) → (d : ℕ) → T (held (Value.Octets k b) (suc d))
-unfolding held octetsHeld table
+unfolding held octetsHeld contents
 any-bytes k m b l d = go (List·Memᴰ·cases-cons m)
   where
-    last : (k ≡ Kind.Decimal) ⊎ List·Memᴰ k [] → T (octetsHeld (content k) b)
+    last : (k ≡ Kind.Decimal) ⊎ List·Memᴰ k [] → T (octetsHeld (kindContent k) b)
     last (inl e) = rw e l
     last (inr n) = absurd (List·Memᴰ·not-nil n)
 
-    second : (k ≡ Kind.Fixed) ⊎ List·Memᴰ k (Kind.Decimal ∷ []) → T (octetsHeld (content k) b)
+    second : (k ≡ Kind.Fixed) ⊎ List·Memᴰ k (Kind.Decimal ∷ []) → T (octetsHeld (kindContent k) b)
     second (inl e) = rw e l
     second (inr n) = last (List·Memᴰ·cases-cons n)
 
-    go : (k ≡ Kind.Bytes) ⊎ List·Memᴰ k (Kind.Fixed ∷ Kind.Decimal ∷ []) → T (octetsHeld (content k) b)
+    go : (k ≡ Kind.Bytes) ⊎ List·Memᴰ k (Kind.Fixed ∷ Kind.Decimal ∷ []) → T (octetsHeld (kindContent k) b)
     go (inl e) = rw e l
     go (inr n) = second (List·Memᴰ·cases-cons n)
 
 -- a Boolean is 00 or 01
 pub boolean-flag : (n d : ℕ) → T (held (Value.Scalar Kind.Boolean n) (suc d)) → n ≤ 1
-unfolding held scalarHeld table
+unfolding held scalarHeld contents
 boolean-flag n d h = leb→le n 1 h
 
 -- ---- no kind is past 19
@@ -211,8 +211,8 @@ known k entries = leb k 0x19
 known k symbol = leb k 0x19
 known k unknown = true
 
-known-holds : T (allBelow 26 (λ k. known k (content k)))
-unfolding allBelow known table
+known-holds : T (allBelow 26 (λ k. known k (kindContent k)))
+unfolding allBelow known contents
 known-holds = tt
 
 scalar-known : (k : ℕ) (c : Content) (n : ℕ) → T (known k c) → T (scalarHeld c n) → T (leb k 0x19)
@@ -245,8 +245,8 @@ octets-known k unknown n t h = absurd h
 
 pub kind-known : (v : Value) (d : ℕ) → T (held v (suc d)) → kindOf v ≤ 0x19
 unfolding held kindOf known
-kind-known (Value.Scalar k n) d h = leb→le k 0x19 (scalar-known k (content k) n (each-content known (λ k. tt) known-holds k) h)
-kind-known (Value.Octets k b) d h = leb→le k 0x19 (octets-known k (content k) b (each-content known (λ k. tt) known-holds k) h)
+kind-known (Value.Scalar k n) d h = leb→le k 0x19 (scalar-known k (kindContent k) n (each-content known (λ k. tt) known-holds k) h)
+kind-known (Value.Octets k b) d h = leb→le k 0x19 (octets-known k (kindContent k) b (each-content known (λ k. tt) known-holds k) h)
 kind-known (Value.Enum i s) d h = omega arith
 kind-known (Value.Array vs) d h = omega arith
 kind-known (Value.Map es) d h = omega arith

@@ -1,4 +1,4 @@
--- Number 3, and the map keys of number 5, in document 01's words: a constructor for each thing that its sentence names. The tests of Sound are exactly these.
+-- Number 3, and the map keys of number 5, in the rules' words: a constructor for each thing that its sentence names. The tests of Sound are exactly these.
 use Prim.Native.Nat.{ℕ, _≤_, _<_, _-_, _/_, _%_, _^_}
 use mathlib.Core.Path.{_≡_}
 use mathlib.Core.List.{List, _∷_, List·Memᴰ}

@@ -36,7 +36,7 @@ fn value_mark(v: Verdict) -> u8
 }
 
 // The mark of a frame.
-fn mark(letter: u8, frame: &[u8]) -> u8
+fn frame_mark(letter: u8, frame: &[u8]) -> u8
     ensures { λ r. ⌜ r ≡ markOf letter (now (frame .entry)) ⌝ }
 {
     if letter == b's' {
@@ -94,7 +94,7 @@ fn counted(t: Tally, line: &[u8], room: &mut [u8]) -> Tally {
     }
     let end = n - 2;
     let k = lines::frame(&line[2..end], room);
-    let found = mark(line[0], &room[..k]);
+    let found = frame_mark(line[0], &room[..k]);
     compared(t, found == line[n - 1])
 }
 

@@ -10,7 +10,7 @@ use lib.ListN.{length, getD, take, drop, set, length-set, drop-of-length-le, tak
 use lib.Seq.{drop-cons, drop-drop, drop-set-lt, take-suc-set, length-take-le}
 use Rattle.uuid.specs.Uuid.{hexDigit, hexPair, hexBytes}
 use Rattle.uuid.proofs.Digits.{hexBytes-drop, behind, behind-nil, behind-pair}
-use Rattle.hex.specs.Line.{sized, lineFrame, Holds}
+use Rattle.hex.specs.Line.{sized, lineFrame, LineHeld}
 use Rattle.hex.specs.declared.Frame.{Frame}
 use Rattle.hex.specs.declared.Frame.the-variants.{Of, Broken, TooLong}
 
@@ -78,8 +78,8 @@ unfolding lineFrame sized
 whole-line d o o₀ i room even r =
     simp (le-ltb (length o₀) (length d / 2) (omega arith), all-read d o o₀ i even r, length-take-le i o (omega (arith, r .size)))
 
-pub held : (d o o₀ : List ℕ) (i : ℕ) → i ≤ length o₀ → length d ≡ 2 * i → Read d o o₀ i → Holds (Of i) d o₀ o
-unfolding Holds
+pub held : (d o o₀ : List ℕ) (i : ℕ) → i ≤ length o₀ → length d ≡ 2 * i → Read d o o₀ i → LineHeld (Of i) d o₀ o
+unfolding LineHeld
 held d o o₀ i room even r = (room, r .size, (λ b e. front b e))
   where
     front : (b : List ℕ) → hexBytes d ≡ some b → o ≡ b ++ drop (length b) o₀
@@ -91,6 +91,6 @@ held d o o₀ i room even r = (room, r .size, (λ b e. front b e))
 
 -- ---- for callers
 
-pub frame-fits : (f : Frame) (n : ℕ) (d o o' : List ℕ) → f ≡ Of n → Holds f d o o' → n ≤ length o
-unfolding Holds
+pub frame-fits : (f : Frame) (n : ℕ) (d o o' : List ℕ) → f ≡ Of n → LineHeld f d o o' → n ≤ length o
+unfolding LineHeld
 frame-fits f n d o o' e h = (rw e at h) .0

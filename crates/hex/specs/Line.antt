@@ -20,7 +20,7 @@ unfoldable pub lineFrame : ℕ → Text → Frame
 lineFrame room line = if ltb room (length line / 2) then TooLong else sized (hexBytes line)
 
 -- the buffer keeps its length; where there is a frame, it fits and stands at the front, and behind it what stood there
-unfoldable pub Holds : Frame → Text → List ℕ → List ℕ → Type 0
-Holds (Of n) line before after = (n ≤ length before) × (length after ≡ length before) × ((b : List ℕ) → hexBytes line ≡ some b → after ≡ b ++ drop (length b) before)
-Holds Broken line before after = length after ≡ length before
-Holds TooLong line before after = after ≡ before
+unfoldable pub LineHeld : Frame → Text → List ℕ → List ℕ → Type 0
+LineHeld (Of n) line before after = (n ≤ length before) × (length after ≡ length before) × ((b : List ℕ) → hexBytes line ≡ some b → after ≡ b ++ drop (length b) before)
+LineHeld Broken line before after = length after ≡ length before
+LineHeld TooLong line before after = after ≡ before

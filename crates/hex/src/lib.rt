@@ -5,7 +5,7 @@ ghost use Prim.Native.Nat.{_+_, _*_, _≤_, _<_};
 ghost use lib.ListN.{length, drop};
 ghost use Rattle.uuid.specs.Rfc4122.{smallDigit};
 ghost use Rattle.hex.specs.Hex.{hexOf, decimal};
-ghost use Rattle.hex.specs.Line.{lineFrame, Holds};
+ghost use Rattle.hex.specs.Line.{lineFrame, LineHeld};
 
 mod table;
 
@@ -19,7 +19,7 @@ pub enum Frame {
 // The bytes of a line's pairs of digits, in either case, to the front of out.
 pub fn from_hex(line: &[u8], out: &mut [u8]) -> Frame
     ensures { λ r. ⌜ r ≡ lineFrame (length (now (out .entry))) (now (line .entry)) ⌝ }
-    ensures { λ r. ⌜ Holds r (now (line .entry)) (now (out .entry)) (now (out .exit)) ⌝ }
+    ensures { λ r. ⌜ LineHeld r (now (line .entry)) (now (out .entry)) (now (out .exit)) ⌝ }
 {
     let pairs = line.len() / 2;
     if out.len() < pairs {

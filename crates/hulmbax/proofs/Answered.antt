@@ -1,4 +1,4 @@
--- Document 01, "What stops a record, in checking order", a sentence for each way: the entry's answer is the one that they give, and no other.
+-- docs/RULES.md, "What stops a record, in checking order", a sentence for each way: the entry's answer is the one that they give, and no other.
 use Prim.Native.Nat.{ℕ, _≤_, _<_}
 use mathlib.Core.Path.{_≡_, refl, sym, _∙_}
 use mathlib.Core.List.{List}

@@ -1,4 +1,4 @@
--- The bounds of every answer: a result has 1 to 65,535 bytes, and a refusal is one of document 01's numbers, 1 to 18.
+-- The bounds of every answer: a result has 1 to 65,535 bytes, and a refusal is one of the rules' numbers, 1 to 18.
 use Prim.Native.Nat.{ℕ, _≤_}
 use mathlib.Core.Path.{_≡_, refl, subst}
 use mathlib.Core.List.{List}

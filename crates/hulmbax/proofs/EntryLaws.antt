@@ -30,7 +30,7 @@ use Rattle.resolution.specs.Contract.{Ready, nodeBytes}
 use Rattle.defaults.specs.Shortness.{SoundRead, testRead}
 use Rattle.avro.proofs.Refusals.{refusal-resolve}
 use Rattle.hulmbax.specs.Answer.{answer, answerFor, bufferAfter, workspaceAfter, checkedSchema, checkedValue, checkedResult, workspaceSize}
-use Rattle.hulmbax.specs.Entry.{Passed, resolvedOf, stopOf}
+use Rattle.hulmbax.specs.Entry.{BothPass, resolvedOf, stopOf}
 use Rattle.hulmbax.specs.declared.Resolved.{Resolved}
 
 -- ---- whole frames
@@ -187,7 +187,7 @@ value-passed v w e = go (decodeValue v) refl e
     go none q e = let z : _≡_ {A = ℕ} 0 1 = cc in absurd (omega arith)
     go (some u) q e = test u (keysRise u) q e
 
-module _ (s v : List ℕ) (p : Passed s v) where
+module _ (s v : List ℕ) (p : BothPass s v) where
   schema-reads : (r : List ℕ) × (readSchema 16 s ≡ some (p .tree, r))
   unfolding decodeSchema
   schema-reads = whole-reads (readSchema 16) s (p .tree) (schema-passed s (p .tree) (p .schema-is) .decoded)
@@ -206,7 +206,7 @@ module _ (s v : List ℕ) (p : Passed s v) where
   unfolding onBoth nodeBytes
   outcome-is = rw (schema-reads .1, value-reads .1)
 
-module _ (s v : List ℕ) (p : Passed s v) (len : ℕ) where
+module _ (s v : List ℕ) (p : BothPass s v) (len : ℕ) where
   answerFor-is : answerFor s v len ≡ after (resolve (p .tree) (p .value)) (λ x. checkedResult len (encodeValue x))
   unfolding after
   answerFor-is = rw (p .schema-is, p .value-is)
@@ -291,7 +291,7 @@ value-never-0 (some w) e = go (keysRise w) e
     go false e = absurd (omega arith)
 
 module _ (s v : List ℕ) where
-  pub passed : (n m : ℕ) → n ≡ stopOf (checkedSchema (decodeSchema s)) → n ≡ 0 → m ≡ stopOf (checkedValue (decodeValue v)) → m ≡ 0 → Passed s v
+  pub passed : (n m : ℕ) → n ≡ stopOf (checkedSchema (decodeSchema s)) → n ≡ 0 → m ≡ stopOf (checkedValue (decodeValue v)) → m ≡ 0 → BothPass s v
   passed n m e z f y =
       let t : (t : Schema) × (checkedSchema (decodeSchema s) ≡ ok t) = schema-never-0 (decodeSchema s) (sym z ∙ e) in
       let w : (w : Value) × (checkedValue (decodeValue v) ≡ ok w) = value-never-0 (decodeValue v) (sym y ∙ f) in
@@ -310,7 +310,7 @@ module _ (s v : List ℕ) where
       rw (t .1, stops (checkedValue (decodeValue v)) m f g) (refl, refl)
 
 -- an accepted result that fits is copied into the result buffer
-pub handed : (s v : List ℕ) (p : Passed s v) (o o' w : List ℕ) (n : ℕ) → Wrote (onBoth nodeBytes (readSchema 16 s) (readValue 16 v)) w (Accepted n) → n ≤ 65535 → n ≤ length o
+pub handed : (s v : List ℕ) (p : BothPass s v) (o o' w : List ℕ) (n : ℕ) → Wrote (onBoth nodeBytes (readSchema 16 s) (readValue 16 v)) w (Accepted n) → n ≤ 65535 → n ≤ length o
     → length w ≡ 65536 → o' ≡ take n w ++ drop (length (take n w)) o → (Resolved.Accepted n ≡ resolvedOf (answerFor s v (length o))) × (o' ≡ bufferAfter (answerFor s v (length o)) o)
 unfolding resolvedOf bufferAfter
 handed s v p o o' w n a h k l e =

@@ -1,4 +1,4 @@
--- The starred finishes of document 01 hold, by computing each.
+-- The starred finishes of docs/RULES.md hold, by computing each.
 use mathlib.Core.Path.{_≡_, refl}
 use mathlib.Core.List.{map}
 use Rattle.hulmbax.specs.Answer.{answer, workspaceSize}

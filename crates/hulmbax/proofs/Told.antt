@@ -1,4 +1,4 @@
--- What a call of the entry shows of its answer, in the result and in the buffers: document 01's sentences before the numbers.
+-- What a call of the entry shows of its answer, in the result and in the buffers: the rules' sentences before the numbers.
 use Prim.Native.Nat.{ℕ}
 use mathlib.Core.Path.{_≡_, refl, sym, ap, _∙_}
 use mathlib.Core.List.{List}

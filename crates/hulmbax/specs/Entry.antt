@@ -1,4 +1,4 @@
--- The entry's answer as document 01's number and length, and what its steps say.
+-- The entry's answer as the rules' number and length, and what its steps say.
 use Prim.Native.Nat.{ℕ, suc, _≤_}
 use lib.Dec.{ltb}
 use lib.IntN.{ℤ, pos, negsuc, negℤ}
@@ -13,7 +13,7 @@ use Rattle.hulmbax.specs.Answer.{checkedSchema, checkedValue}
 use Rattle.hulmbax.specs.declared.Resolved.{Resolved}
 use Rattle.hulmbax.specs.declared.Resolved.the-variants.{Accepted, Refused}
 
--- an accepted result has its length; a refusal has document 01's number
+-- an accepted result has its length; a refusal has the rules' number
 unfoldable pub resolvedOf : Result (List ℕ) → Resolved
 resolvedOf (ok r) = Accepted (length r)
 resolvedOf (stop n) = Refused n
@@ -24,7 +24,7 @@ stopOf (ok a) = 0
 stopOf (stop n) = n
 
 -- both frames passed their checks
-pub record Passed (schema record' : List ℕ) : Type 0 where
+pub record BothPass (schema record' : List ℕ) : Type 0 where
   pub tree : Schema
   pub value : Value
   pub schema-is : checkedSchema (decodeSchema schema) ≡ ok tree
@@ -40,7 +40,7 @@ unfoldable pub readCode : ℤ → Resolved
 readCode (pos n) = Accepted n
 readCode (negsuc k) = Refused (suc k)
 
--- a length is that of a frame, and a refusal is one of document 01's numbers
+-- a length is that of a frame, and a refusal is one of the rules' numbers
 unfoldable pub Bounded : Resolved → Type 0
 Bounded (Accepted n) = (1 ≤ n) × (n ≤ 65535)
 Bounded (Refused e) = (1 ≤ e) × (e ≤ 18)

@@ -1,4 +1,4 @@
--- The starred lines of document 01, "Finishes to check by", as one table.
+-- The starred lines of docs/RULES.md, "Finishes to check by", as one table.
 use Prim.Native.Nat.{ℕ}
 use Prim.Native.String.{String}
 use mathlib.Core.List.{List, [], _∷_}

@@ -7,7 +7,7 @@ ghost use lib.ListN.{length};
 ghost use Rattle.frame.specs.ValueFrame.{decodeValue};
 ghost use Rattle.frame.specs.SchemaFrame.{decodeSchema};
 ghost use Rattle.hulmbax.specs.Answer.{answer, answerFor, bufferAfter, checkedSchema, checkedValue, workspaceAfter};
-ghost use Rattle.hulmbax.specs.Entry.{Bounded, Passed, codeOf, resolvedOf, stopOf, usedFor};
+ghost use Rattle.hulmbax.specs.Entry.{Bounded, BothPass, codeOf, resolvedOf, stopOf, usedFor};
 
 // A result of so many bytes, or the number of what stopped the record.
 pub enum Resolved {
@@ -45,7 +45,7 @@ fn record_stop(record: &[u8]) -> u8
 
 // Resolves frames that passed their checks into the work slice, and hands over a result that fits.
 fn hand_over(schema: &[u8], record: &[u8], result: &mut [u8], work: &mut [u8]) -> Resolved
-    requires { ⌜ Passed (now schema) (now «record») × (length (now work) ≡ 65536) ⌝ }
+    requires { ⌜ BothPass (now schema) (now «record») × (length (now work) ≡ 65536) ⌝ }
     ensures answer { λ r. ⌜ r ≡ resolvedOf (answerFor (now (schema .entry)) (now («record» .entry)) (length (now (result .entry)))) ⌝ }
     ensures contents { λ _. ⌜ now (result .exit) ≡ bufferAfter (answerFor (now (schema .entry)) (now («record» .entry)) (length (now (result .entry)))) (now (result .entry)) ⌝ }
 {

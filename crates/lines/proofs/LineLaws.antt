@@ -15,7 +15,7 @@ use Rattle.base.specs.Base.{if_then_else_, ok, stop}
 use Rattle.text.specs.Text.{Text, ascii}
 use Rattle.uuid.specs.Uuid.{hexBytes}
 use Rattle.hex.specs.Hex.{frameOf, hexOf, decimal}
-use Rattle.hex.specs.Line.{sized, lineFrame, Holds}
+use Rattle.hex.specs.Line.{sized, lineFrame, LineHeld}
 use Rattle.hex.specs.declared.Frame.{Frame}
 use Rattle.hex.specs.declared.Frame.the-variants.{Of, Broken, TooLong}
 use Rattle.hex.proofs.DigitLaws.{length-hexOf}
@@ -116,9 +116,9 @@ held-at : (room : ℕ) (l : Text) (b : Bool) (h : Option (List ℕ)) → ltb roo
 unfolding lineFrame heldFrame frameOf
 held-at room l b h p q = (rw (p, q), rw (p, q))
 
-module _ (f : Frame) (l o o' : List ℕ) (e : f ≡ lineFrame (length o) l) (h : Holds f l o o') where
+module _ (f : Frame) (l o o' : List ℕ) (e : f ≡ lineFrame (length o) l) (h : LineHeld f l o o') where
   pub frame-of : (n : ℕ) → f ≡ Of n → ((n ≡ length (heldFrame (length o) l)) × (n ≤ length o')) × (take n o' ≡ heldFrame (length o) l)
-  unfolding sized Holds
+  unfolding sized LineHeld
   frame-of n p = go (ltb (length o) (length l / 2)) (hexBytes l) refl refl
     where
       go : (b : Bool) (x : Option (List ℕ)) → ltb (length o) (length l / 2) ≡ b → hexBytes l ≡ x → ((n ≡ length (heldFrame (length o) l)) × (n ≤ length o')) × (take n o' ≡ heldFrame (length o) l)
@@ -127,7 +127,7 @@ module _ (f : Frame) (l o o' : List ℕ) (e : f ≡ lineFrame (length o) l) (h :
       go false (some b) q r =
           let i : n ≡ length b = cc (held-at (length o) l false (some b) q r .0) in
           let k : heldFrame (length o) l ≡ b = held-at (length o) l false (some b) q r .1 in
-          let g : Holds (Of n) l o o' = rw p at h in
+          let g : LineHeld (Of n) l o o' = rw p at h in
           rw k ((i, omega (arith, g .0, g .1)), ap (take n) (g .2 b r) ∙ take-at b (drop (length b) o) n (sym i))
 
   pub no-frame : (f ≡ Broken) ⊎ (f ≡ TooLong) → ((0 ≡ length (heldFrame (length o) l)) × (0 ≤ length o')) × ([] ≡ heldFrame (length o) l)

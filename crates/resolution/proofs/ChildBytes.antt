@@ -24,7 +24,7 @@ use Rattle.frame.proofs.Counting.{many-length}
 use Rattle.frame.proofs.ValueNodes.{value-kind}
 use Rattle.types.specs.Types.{Outcome}
 use Rattle.types.specs.Contract.{encoded, onRead, onBoth}
-use Rattle.avro.specs.Resolve.{eachEntry, resolve-map, lookup, fieldValue, resolve-record, resolve, resolveFields, startDefault}
+use Rattle.avro.specs.Resolve.{eachEntry, resolve-map, lastUnder, fieldValue, resolve-record, resolve, resolveFields, startDefault}
 use Rattle.avro.specs.Defaults.{defaultsShort, fieldDefaultsShort, shortDefault}
 use Rattle.find.specs.Find.{Keyed}
 use Rattle.resolution.specs.Contract.{Ready, nodeBytes, entryBytes, fieldBytes}
@@ -103,11 +103,11 @@ module _ (ds dv : ℕ) (s v : List ℕ) (r : Ready ds s) (pv : Reads (readValue 
 
 -- what becomes of a field, before its bytes
 abbrev fieldOutcome : Field → Entries → Outcome
-fieldOutcome f es = after (fieldValue (lookup (f .0) es) (f .1) (λ w. startDefault (f .2) w)) (λ v. resolve (f .2) v)
+fieldOutcome f es = after (fieldValue (lastUnder (f .0) es) (f .1) (λ w. startDefault (f .2) w)) (λ v. resolve (f .2) v)
 
 fields-next : (f : Field) (fs : List Field) (es : Entries) → resolveFields (fieldsOf (f ∷ fs)) es ≡ after (fieldOutcome f es) (λ r. after (resolveFields (fieldsOf fs) es) (λ rs. ok (entry (f .0) r rs)))
 unfolding resolve fieldsOf
-fields-next f fs es = go (fieldValue (lookup (f .0) es) (f .1) (λ w. startDefault (f .2) w))
+fields-next f fs es = go (fieldValue (lastUnder (f .0) es) (f .1) (λ w. startDefault (f .2) w))
   where
     go : (o : Outcome) → after o (λ v. after (resolve (f .2) v) (λ r. after (resolveFields (fieldsOf fs) es) (λ rs. ok (entry (f .0) r rs))))
         ≡ after (after o (λ v. resolve (f .2) v)) (λ r. after (resolveFields (fieldsOf fs) es) (λ rs. ok (entry (f .0) r rs)))
@@ -116,7 +116,7 @@ fields-next f fs es = go (fieldValue (lookup (f .0) es) (f .1) (λ w. startDefau
 
 field-outcome : (f : Field) (w : Value) → fieldBytes f w ≡ after (encoded (fieldOutcome f (entries w))) (λ b. ok (writeText (f .0) ++ b))
 unfolding fieldBytes nodeBytes
-field-outcome f w = go (fieldValue (lookup (f .0) (entries w)) (f .1) (λ d. startDefault (f .2) d))
+field-outcome f w = go (fieldValue (lastUnder (f .0) (entries w)) (f .1) (λ d. startDefault (f .2) d))
   where
     go : (o : Outcome) → after o (λ x. after (encoded (resolve (f .2) x)) (λ b. ok (writeText (f .0) ++ b))) ≡ after (encoded (after o (λ v. resolve (f .2) v))) (λ b. ok (writeText (f .0) ++ b))
     go (stop k) = unfold after encoded in refl

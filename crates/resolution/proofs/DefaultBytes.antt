@@ -17,7 +17,7 @@ use Rattle.text.specs.Measured.{Reads}
 use Rattle.frame.specs.Kind
 use Rattle.frame.specs.Tree.{Value, Schema, Variants, variant, kindOf, is, peel, schemaKind}
 use Rattle.frame.specs.Readers.{readMany}
-use Rattle.frame.specs.ValueFrame.{table, readContent, readValue, encodeValue}
+use Rattle.frame.specs.ValueFrame.{contents, readContent, readValue, encodeValue}
 use Rattle.frame.specs.SchemaFrame.{variantsOf, readSchema}
 use Rattle.frame.specs.Sound.{schemaSound, countVariants}
 use Rattle.frame.proofs.RoundTrip.{held, value-back}
@@ -117,7 +117,7 @@ first-kind ds s r e = let f = first-variant ds s r e in schema-kind (ds - 1) (dr
 -- ---- defaults in unions
 
 null-reads : readValue 1 (0 ∷ []) ≡ some (Value.Scalar Kind.Null 0, [])
-null-reads = unfold readValue readContent table readNumber readBytes bigEndian _>>=_ in refl
+null-reads = unfold readValue readContent contents readNumber readBytes bigEndian _>>=_ in refl
 
 pub null-value : (n : List ℕ) → n ≡ 0 ∷ [] → Reads (readValue 1 n)
 null-value n q = reads-some (Value.Scalar Kind.Null 0) [] (ap (readValue 1) q ∙ null-reads)

@@ -19,7 +19,7 @@ use Rattle.frame.specs.ValueFrame.{readEntry, readValue, writeText}
 use Rattle.frame.specs.SchemaFrame.{Field, readField, readSchema}
 use Rattle.frame.specs.Sound.{schemaSound}
 use Rattle.frame.proofs.Reading.{read-what, read-rest, bind-inv, map-inv, reads-some}
-use Rattle.avro.specs.Resolve.{lookup, fieldValue, startDefault}
+use Rattle.avro.specs.Resolve.{lastUnder, fieldValue, startDefault}
 use Rattle.avro.specs.Defaults.{defaultsShort, shortDefault}
 use Rattle.find.specs.Find.{Located, entryUnder}
 use Rattle.field.specs.Parts.{DefaultAt, FieldParts}
@@ -144,7 +144,7 @@ module _ (ds : ℕ) (s : List ℕ) (rf : ReadyField ds s) (f : FieldAt) (fp : Fi
     unfolding fieldBytes Reads entryUnder
     field-open o q =
         let n : fp .name ≡ x = sym (field-name (readSchema ds) s (fp .name, fp .default, fp .tree) (fp .rest) (fp .reads) x (drop (2 + length x) s) e) in
-        let w : lookup x (entries (pv .0)) ≡ o = sym (ap (entryUnder x) (pv .1 .1)) ∙ q in
+        let w : lastUnder x (entries (pv .0)) ≡ o = sym (ap (entryUnder x) (pv .1 .1)) ∙ q in
         both-some fieldBytes _ _ (fp .name, fp .default, fp .tree) (pv .0) (fp .rest) (pv .1 .0) (fp .reads) (pv .1 .1)
         ∙ ap (λ y. fieldBytes (y, fp .default, fp .tree) (pv .0)) n
         ∙ ap (λ y. after (fieldValue y (fp .default) (λ d. startDefault (fp .tree) d)) (λ z. after (nodeBytes (fp .tree) z) (λ b. ok (writeText x ++ b)))) w

@@ -8,7 +8,7 @@ use Rattle.text.specs.Read.{Read}
 use Rattle.text.specs.Measured.{Reads}
 use Rattle.frame.specs.Tree.{Value, Schema}
 use Rattle.frame.specs.Readers.{readMany, readList}
-use Rattle.frame.specs.ValueFrame.{table, itemsOf, entriesOf, readEntry, readContent, readValue}
+use Rattle.frame.specs.ValueFrame.{contents, itemsOf, entriesOf, readEntry, readContent, readValue}
 use Rattle.frame.specs.SchemaFrame.{fieldsOf, readField, readSchemaContent, readSchema}
 use Rattle.frame.proofs.Reading.{mapRead, reads-some, reads-eq, reads-first}
 use Rattle.frame.proofs.Counting.{list-behind}
@@ -26,11 +26,11 @@ counted-node p g x s h e =
 
 module _ (d : ℕ) (s : List ℕ) (p : Reads (readValue d s)) where
   pub value-array : getD s 0 0 ≡ 8 → (3 ≤ length s) × (readValue d s ≡ mapRead (λ vs. Value.Array (itemsOf vs)) (readMany (readValue (d - 1)) (numberAt s 1 2) (drop 3 s)))
-  unfolding readContent table
+  unfolding readContent contents
   value-array e = counted-node (readValue (d - 1)) (λ vs. Value.Array (itemsOf vs)) (readValue d s) s p (value-opened d s p 8 e)
 
   pub value-map : getD s 0 0 ≡ 9 → (3 ≤ length s) × (readValue d s ≡ mapRead (λ es. Value.Map (entriesOf es)) (readMany (readEntry (readValue (d - 1))) (numberAt s 1 2) (drop 3 s)))
-  unfolding readContent table
+  unfolding readContent contents
   value-map e = counted-node (readEntry (readValue (d - 1))) (λ es. Value.Map (entriesOf es)) (readValue d s) s p (value-opened d s p 9 e)
 
 -- ---- a schema node

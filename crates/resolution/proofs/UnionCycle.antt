@@ -32,7 +32,7 @@ use Rattle.avro.proofs.UnionLaws.{take-accepted, take-untried, take-refused, fi
 use Rattle.frame.proofs.SoundLaws.{sound-union}
 use Rattle.resolution.specs.Contract.{Ready, nodeBytes, variantBytes}
 use Rattle.leaf.specs.Leaf.{peeledBytes}
-use Rattle.variants.specs.Ways.{kindTable, namedTable, foundOf, wantedOf, OnRead, Passed, Numbers, Among, WasNamed, isAt, baseRead, countOf, soonerOf}
+use Rattle.variants.specs.Ways.{kindTable, namedTable, foundOf, wantedOf, OnRead, VariantAt, Numbers, Among, WasNamed, isAt, baseRead, countOf, soonerOf}
 use Rattle.resolution.specs.UnionContract.{OnBoth, TriedBefore, Tries, FailedAt, NoneYet, trialsOf, trialAt, tableOf, namedOf, firstBytes, Stands, TriedFor, NamedAfter, TableFirst}
 use Rattle.find.specs.declared.Found.{Found}
 use Rattle.variants.specs.declared.Tried.{Tried}
@@ -94,7 +94,7 @@ module _ (ds : ℕ) (s : List ℕ) (q : Ready ds s) (ten : getD s 0 0 ≡ 10) wh
   pub below-ready : (i : ℕ) → i < countOf (q .tree) → OnRead (λ t. i < countOf t) (readSchema ds s)
   below-ready i h = on-read-of (λ t. i < countOf t) _ (q .tree) (q .rest) (q .reads) h
 
-  pub ready-start : Passed ds s 0 3
+  pub ready-start : VariantAt ds s 0 3
   ready-start = passed-start ds s (q .tree) parts
 
   nth : ℕ → Schema
@@ -103,7 +103,7 @@ module _ (ds : ℕ) (s : List ℕ) (q : Ready ds s) (ten : getD s 0 0 ≡ 10) wh
   nth-below : (i : ℕ) → i < countOf (q .tree) → i < length (parts .variants)
   nth-below i h = omega (arith, ready-count, parts-length ds s (q .tree) parts)
 
-  variant-read : (i r : ℕ) → Passed ds s i r → i < countOf (q .tree) → (u : List ℕ) × (readSchema (ds - 1) (drop r s) ≡ some (nth i, u))
+  variant-read : (i r : ℕ) → VariantAt ds s i r → i < countOf (q .tree) → (u : List ℕ) × (readSchema (ds - 1) (drop r s) ≡ some (nth i, u))
   unfolding nth
   variant-read i r w h =
       let l : i < numberAt s 1 2 = omega (arith, ready-count) in
@@ -120,7 +120,7 @@ module _ (ds : ℕ) (s : List ℕ) (q : Ready ds s) (ten : getD s 0 0 ≡ 10) wh
         ),
       )
 
-  pub variant-ready : (i r : ℕ) → Passed ds s i r → i < countOf (q .tree) → Ready (ds - 1) (drop r s)
+  pub variant-ready : (i r : ℕ) → VariantAt ds s i r → i < countOf (q .tree) → Ready (ds - 1) (drop r s)
   unfolding nth
   variant-ready i r w h =
       let e = variant-read i r w h in
@@ -132,7 +132,7 @@ module _ (ds : ℕ) (s : List ℕ) (q : Ready ds s) (ten : getD s 0 0 ≡ 10) wh
         short = short-nth (parts .variants) i (Schema.Plain 0) (short-union (frame.variantsOf (parts .variants)) (parts .kinds) (parts .named) (subst (λ x. T (defaultsShort x)) (parts .is) (q .short))) (nth-below i h);
       }
 
-  pub variant-reads : (i r : ℕ) → Passed ds s i r → i < countOf (q .tree) → Reads (readSchema (ds - 1) (drop r s))
+  pub variant-reads : (i r : ℕ) → VariantAt ds s i r → i < countOf (q .tree) → Reads (readSchema (ds - 1) (drop r s))
   variant-reads i r w h = let e = variant-read i r w h in reads-some (nth i) (e .0) (e .1)
 
   pub named-below : (j : ℕ) → j < length (namedTable (q .tree)) → getD (namedTable (q .tree)) j 0 < countOf (q .tree)
@@ -162,7 +162,7 @@ module _ (ds : ℕ) (s : List ℕ) (q : Ready ds s) (ten : getD s 0 0 ≡ 10) wh
 
     -- ---- one variant
 
-    module _ (i r : ℕ) (p : Passed ds s i r) (h : i < countOf (q .tree)) where
+    module _ (i r : ℕ) (p : VariantAt ds s i r) (h : i < countOf (q .tree)) where
       tried-bytes : onBoth nodeBytes (readSchema (ds - 1) (drop r s)) (readValue dv v) ≡ encoded (trialAt (q .tree) w i .outcome)
       unfolding onBoth nodeBytes
       tried-bytes = rw (variant-read i r p h .1, ev) (ap (λ (x : Trial). encoded (x .outcome)) (sym (trial-is w i h)))
@@ -293,7 +293,7 @@ module _ (ds : ℕ) (s : List ℕ) (q : Ready ds s) (ten : getD s 0 0 ≡ 10) wh
         pub again-inside : n .at + 2 * n .count ≤ length s
         again-inside = again-numbers .inside
 
-        pub again-named : (i r : ℕ) → Passed ds s i r → i < countOf (q .tree) → (bytes : (j : ℕ) → getD v j 0 < 256) (x : Wanted) (base e : ℕ) (o : List ℕ) (b : Bool)
+        pub again-named : (i r : ℕ) → VariantAt ds s i r → i < countOf (q .tree) → (bytes : (j : ℕ) → getD v j 0 < 256) (x : Wanted) (base e : ℕ) (o : List ℕ) (b : Bool)
             → wantedOf x ≡ namedKind (getD v 0 0) → base ≡ baseRead (readSchema (ds - 1) (drop r s)) → WasNamed s n i (wantedOf x) base b → b ≡ true
             → OnBoth (λ t y. Tries i t y o (Refused e)) (readSchema ds s) (readValue dv v)
         unfolding Among WasNamed Tries namedOf
@@ -306,7 +306,7 @@ module _ (ds : ℕ) (s : List ℕ) (q : Ready ds s) (ten : getD s 0 0 ≡ 10) wh
             there (λ t y. Tries i t y o (Refused e)) (sym (takes-by base (trialsOf (q .tree) w) i (sym (base-of i r p l) ∙ sym c)) ∙ t)
         again-named i r p l bytes x base e o false a c h d = let y : _≡_ {A = ℕ} 0 1 = cc in absurd (omega arith)
 
-    pub again-one : (i r : ℕ) → Passed ds s i r → i < countOf (q .tree) → (o : List ℕ) (a : Answer) → Wrote (onBoth nodeBytes (readSchema (ds - 1) (drop r s)) (readValue dv v)) (drop 5 o) a → OnBoth (λ t x. Tries i t x o a) (readSchema ds s) (readValue dv v)
+    pub again-one : (i r : ℕ) → VariantAt ds s i r → i < countOf (q .tree) → (o : List ℕ) (a : Answer) → Wrote (onBoth nodeBytes (readSchema (ds - 1) (drop r s)) (readValue dv v)) (drop 5 o) a → OnBoth (λ t x. Tries i t x o a) (readSchema ds s) (readValue dv v)
     again-one i r p l o a g = there (λ t x. Tries i t x o a) (tries-of i (q .tree) w o a (tried-wrote i r p l (drop 5 o) a g))
 
     -- ---- what stands, behind its index

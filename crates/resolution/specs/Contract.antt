@@ -12,7 +12,7 @@ use Rattle.frame.specs.SchemaFrame.{Field, readSchema, readField}
 use Rattle.frame.specs.Sound.{schemaSound}
 use Rattle.types.specs.Contract.{encoded}
 use Rattle.avro.specs.Union.{inUnion}
-use Rattle.avro.specs.Resolve.{resolve, startDefault, trials, lookup, fieldValue}
+use Rattle.avro.specs.Resolve.{resolve, startDefault, trials, lastUnder, fieldValue}
 use Rattle.avro.specs.Defaults.{defaultsShort, shortDefault}
 use Rattle.variants.specs.Ways.{unionVariants}
 
@@ -61,7 +61,7 @@ defaultBytes t d = after (startDefault t d) (λ w. nodeBytes t w)
 
 -- the bytes of a field, for the Record or Map that it is looked for in
 unfoldable pub fieldBytes : Field → Value → Result (List ℕ)
-fieldBytes f w = after (fieldValue (lookup (f .0) (entries w)) (f .1) (λ d. startDefault (f .2) d))
+fieldBytes f w = after (fieldValue (lastUnder (f .0) (entries w)) (f .1) (λ d. startDefault (f .2) d))
     (λ x. after (nodeBytes (f .2) x) (λ b. ok (writeText (f .0) ++ b)))
 
 -- the bytes of a union's variant

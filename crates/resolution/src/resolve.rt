@@ -42,7 +42,7 @@ ghost use Rattle.find.specs.Marks.{Marked};
 ghost use Rattle.types.specs.Contract.{onBoth};
 ghost use Rattle.resolution.specs.Contract.{Ready, ReadyDefault, ReadyField, defaultBytes, entryBytes, fieldBytes, nodeBytes, variantBytes};
 ghost use Rattle.leaf.specs.Leaf.{peeledBytes};
-ghost use Rattle.variants.specs.Ways.{namedTable, Numbers, OnRead, Passed, countOf};
+ghost use Rattle.variants.specs.Ways.{namedTable, Numbers, OnRead, VariantAt, countOf};
 ghost use mathlib.Core.Option.{some};
 ghost use Rattle.avro.specs.Union.{firstThatResolves, namedVariant};
 ghost use Rattle.resolution.specs.UnionContract.{NoneYet, OnBoth, Stands, TableFirst, TriedBefore, TriedFor, Tries, firstBytes, namedOf, trialsOf};
@@ -425,7 +425,7 @@ fn try_any(
     tried: Found,
     named: Positions,
 ) -> Answer
-    requires { ⌜ Ready ds (now s) × Reads (readValue dv (now v)) × (getD (now s) 0 0 ≡ 10) × OnBoth (NoneYet tried) (readSchema ds (now s)) (readValue dv (now v)) × OnRead (λ t. i < countOf t) (readSchema ds (now s)) × Passed ds (now s) i from × OnRead (λ t. Numbers (now s) (namedTable t) named) (readSchema ds (now s)) ⌝ }
+    requires { ⌜ Ready ds (now s) × Reads (readValue dv (now v)) × (getD (now s) 0 0 ≡ 10) × OnBoth (NoneYet tried) (readSchema ds (now s)) (readValue dv (now v)) × OnRead (λ t. i < countOf t) (readSchema ds (now s)) × VariantAt ds (now s) i from × OnRead (λ t. Numbers (now s) (namedTable t) named) (readSchema ds (now s)) ⌝ }
     ensures { λ r. ⌜ OnBoth (λ t w. Tries i t w (now (out .exit)) r) (readSchema ds (now (s .entry))) (readValue dv (now (v .entry))) ⌝ }
 {
     if is_at(tried, i) {

@@ -36,7 +36,7 @@ fn high_slot(h: usize, few: bool) -> usize
 }
 
 // The mark of a name.
-fn mark(h: usize) -> u8
+fn name_mark(h: usize) -> u8
     ensures { λ r. ⌜ r ≡ markOf h ⌝ }
 {
     1 + ((h % 251) as u8)
@@ -110,7 +110,7 @@ fn differ_by(s: &[u8], depth: usize, few: bool, table: &mut [u8]) -> bool
         let h = text::hash(name);
         let j = low_slot(h, few);
         let k = high_slot(h, few);
-        let v = mark(h);
+        let v = name_mark(h);
         let low = may_be(table[j], v);
         let high = may_be(table[k], v);
         if repeats(low, high, &s[2..], done, name, depth) {

@@ -18,7 +18,7 @@ use Rattle.scalar.specs.Conversion.{inInt, finiteDouble}
 use Rattle.text.proofs.ReadLaws.{readText-counted, readNumber-some}
 use Rattle.frame.specs.Tree.{Value}
 use Rattle.frame.specs.Readers.{readFlag, readList, readOption}
-use Rattle.frame.specs.ValueFrame.{Content, wide, flag, counted, text, plain, array, map, union, entries, symbol, unknown, table, content, itemsOf, entriesOf, readEntry, readContent, readValue}
+use Rattle.frame.specs.ValueFrame.{Content, wide, flag, counted, text, plain, array, map, union, entries, symbol, unknown, contents, kindContent, itemsOf, entriesOf, readEntry, readContent, readValue}
 use Rattle.frame.specs.Sound.{keysRise, defaultScalar, defaultKinds, defaultItems, defaultEntries, defaultAllowed}
 use Rattle.frame.specs.Checks.{Checks, Spans}
 use Rattle.frame.specs.declared.Checked.the-variants.{Of}
@@ -69,11 +69,11 @@ kindTest k entries = not (leb k 2)
 kindTest k symbol = not (leb k 2)
 kindTest k unknown = true
 
-table-holds : T (allBelow 26 (λ k. kindTest k (content k)))
-unfolding allBelow kindTest table
+table-holds : T (allBelow 26 (λ k. kindTest k (kindContent k)))
+unfolding allBelow kindTest contents
 table-holds = tt
 
-kind-test : (k : ℕ) → T (kindTest k (content k))
+kind-test : (k : ℕ) → T (kindTest k (kindContent k))
 unfolding kindTest
 kind-test = each-content kindTest (λ k. tt) table-holds
 
@@ -103,59 +103,59 @@ module _ (k : ℕ) (f3 : k ≡ 3 → ⊥) (f5 : k ≡ 5 → ⊥) (f7 : k ≡ 7 �
   content-other node unknown s t = says-none _
 
 module _ (d : ℕ) (s : List ℕ) (r : Reads (readValue d s)) where
-  says-at : (k : ℕ) (b : Bool) → getD s 0 0 ≡ k → Says b (readContent (readValue (d - 1)) k (content k) (drop 1 s)) → (v : Value) (u : List ℕ) → readValue d s ≡ some (v, u) → b ≡ defaultKinds v
+  says-at : (k : ℕ) (b : Bool) → getD s 0 0 ≡ k → Says b (readContent (readValue (d - 1)) k (kindContent k) (drop 1 s)) → (v : Value) (u : List ℕ) → readValue d s ≡ some (v, u) → b ≡ defaultKinds v
   unfolding Says
   says-at k b e w v u g = w v u (sym (value-opened d s r k e) ∙ g)
 
   pub other-kinds : (getD s 0 0 ≡ 3 → ⊥) → (getD s 0 0 ≡ 5 → ⊥) → (getD s 0 0 ≡ 7 → ⊥) → (getD s 0 0 ≡ 8 → ⊥) → (getD s 0 0 ≡ 9 → ⊥) → (v : Value) (u : List ℕ) → readValue d s ≡ some (v, u) → leb (getD s 0 0) 2 ≡ defaultKinds v
-  other-kinds f3 f5 f7 f8 f9 = says-at (getD s 0 0) (leb (getD s 0 0) 2) refl (content-other (getD s 0 0) f3 f5 f7 f8 f9 (readValue (d - 1)) (content (getD s 0 0)) (drop 1 s) (kind-test (getD s 0 0)))
+  other-kinds f3 f5 f7 f8 f9 = says-at (getD s 0 0) (leb (getD s 0 0) 2) refl (content-other (getD s 0 0) f3 f5 f7 f8 f9 (readValue (d - 1)) (kindContent (getD s 0 0)) (drop 1 s) (kind-test (getD s 0 0)))
 
-  pub wide-there : (k : ℕ) → getD s 0 0 ≡ k → content k ≡ wide 8 → 9 ≤ length s
+  pub wide-there : (k : ℕ) → getD s 0 0 ≡ k → kindContent k ≡ wide 8 → 9 ≤ length s
   unfolding readContent
   wide-there k e c =
       let h : 8 ≤ length (drop 1 s) = reads-number 8 (drop 1 s) (reads-first (readNumber 8 (drop 1 s)) _ (reads-eq _ _ (value-opened d s r k e ∙ ap (λ c. readContent (readValue (d - 1)) k c (drop 1 s)) c) r)) in
       omega (arith, length-drop 1 s)
 
-  wide-says : (k : ℕ) (b : Bool) → getD s 0 0 ≡ k → content k ≡ wide 8 → b ≡ defaultScalar k (numberAt s 1 8) → (v : Value) (u : List ℕ) → readValue d s ≡ some (v, u) → b ≡ defaultKinds v
+  wide-says : (k : ℕ) (b : Bool) → getD s 0 0 ≡ k → kindContent k ≡ wide 8 → b ≡ defaultScalar k (numberAt s 1 8) → (v : Value) (u : List ℕ) → readValue d s ≡ some (v, u) → b ≡ defaultKinds v
   unfolding readContent defaultKinds
   wide-says k b e c h =
       says-at k b e (subst (λ c. Says b (readContent (readValue (d - 1)) k c (drop 1 s))) (sym c)
       (says-bind b (readNumber 8 (drop 1 s)) _ (λ q g. says-some b (Value.Scalar k (q .0)) (q .1) (h ∙ ap (defaultScalar k) (read-what (sym (readNumber-some 8 (drop 1 s) (omega (arith, length-drop 1 s, wide-there k e c))) ∙ g))))))
 
   pub long-there : getD s 0 0 ≡ 3 → 9 ≤ length s
-  unfolding table
+  unfolding contents
   long-there e = wide-there 3 e refl
 
   pub double-there : getD s 0 0 ≡ 5 → 9 ≤ length s
-  unfolding table
+  unfolding contents
   double-there e = wide-there 5 e refl
 
   pub long-says : getD s 0 0 ≡ 3 → (b : Bool) → b ≡ not (inInt (numberAt s 1 8)) → (v : Value) (u : List ℕ) → readValue d s ≡ some (v, u) → b ≡ defaultKinds v
-  unfolding table defaultScalar
+  unfolding contents defaultScalar
   long-says e b h = wide-says 3 b e refl (h ∙ sym (or-false _))
 
   pub double-says : getD s 0 0 ≡ 5 → (b : Bool) → b ≡ finiteDouble (numberAt s 1 8) → (v : Value) (u : List ℕ) → readValue d s ≡ some (v, u) → b ≡ defaultKinds v
-  unfolding table defaultScalar
+  unfolding contents defaultScalar
   double-says e b h = wide-says 5 b e refl h
 
   pub string-says : getD s 0 0 ≡ 7 → (v : Value) (u : List ℕ) → readValue d s ≡ some (v, u) → true ≡ defaultKinds v
-  unfolding table readContent defaultKinds
+  unfolding contents readContent defaultKinds
   string-says e = says-at 7 true e (says-bind true (readText (drop 1 s)) _ (λ q g. says-some true (Value.Octets 7 (q .0)) (q .1) refl))
 
   pub array-reads : getD s 0 0 ≡ 8 → Reads (readList (readValue (d - 1)) (drop 1 s))
-  unfolding table readContent
+  unfolding contents readContent
   array-reads e = reads-first (readList (readValue (d - 1)) (drop 1 s)) _ (reads-eq _ _ (value-opened d s r 8 e) r)
 
   pub map-reads : getD s 0 0 ≡ 9 → Reads (readList (readEntry (readValue (d - 1))) (drop 1 s))
-  unfolding table readContent
+  unfolding contents readContent
   map-reads e = reads-first (readList (readEntry (readValue (d - 1))) (drop 1 s)) _ (reads-eq _ _ (value-opened d s r 9 e) r)
 
   pub array-says : getD s 0 0 ≡ 8 → (b : Bool) → ((vs : List Value) (u : List ℕ) → readList (readValue (d - 1)) (drop 1 s) ≡ some (vs, u) → b ≡ defaultItems (itemsOf vs)) → (v : Value) (u : List ℕ) → readValue d s ≡ some (v, u) → b ≡ defaultKinds v
-  unfolding table readContent defaultKinds
+  unfolding contents readContent defaultKinds
   array-says e b h = says-at 8 b e (says-bind b (readList (readValue (d - 1)) (drop 1 s)) _ (λ q g. says-some b (Value.Array (itemsOf (q .0))) (q .1) (h (q .0) (q .1) g)))
 
   pub map-says : getD s 0 0 ≡ 9 → (b : Bool) → ((es : List (Text × Value)) (u : List ℕ) → readList (readEntry (readValue (d - 1))) (drop 1 s) ≡ some (es, u) → b ≡ defaultEntries (entriesOf es)) → (v : Value) (u : List ℕ) → readValue d s ≡ some (v, u) → b ≡ defaultKinds v
-  unfolding table readContent defaultKinds
+  unfolding contents readContent defaultKinds
   map-says e b h = says-at 9 b e (says-bind b (readList (readEntry (readValue (d - 1))) (drop 1 s)) _ (λ q g. says-some b (Value.Map (entriesOf (q .0))) (q .1) (h (q .0) (q .1) g)))
 
 -- ---- the loops

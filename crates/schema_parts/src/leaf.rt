@@ -14,7 +14,7 @@ ghost use Rattle.frame.specs.Sound.{schemaSound};
 ghost use Rattle.frame.specs.Checks.{Checks};
 
 // A count and as many texts.
-fn texts_len(s: &[u8]) -> Len
+fn texts_measured(s: &[u8]) -> Len
     ensures { λ r. ⌜ Measured (readList readText (now (s .entry))) (now (s .entry)) r ⌝ }
 {
     if s.len() < 2 {
@@ -76,7 +76,7 @@ fn option_size_len(s: &[u8]) -> Len
 fn enum_check(s: &[u8]) -> Checked
     ensures { λ r. ⌜ ((node : List ℕ → Read Schema) → Checks schemaSound (readSchemaContent node 12 (now (s .entry))) (now (s .entry)) r) ⌝ }
 {
-    let Len::Of(a) = texts_len(s) else {
+    let Len::Of(a) = texts_measured(s) else {
         return Checked::Broken;
     };
     let Len::Of(b) = option_text_len(&s[a..]) else {

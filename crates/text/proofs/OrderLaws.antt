@@ -1,4 +1,4 @@
--- `less` is exactly document 01's order of map keys, and that order is transitive.
+-- `less` is exactly the rules' order of map keys, and that order is transitive.
 use Prim.Native.Nat.{_<_}
 use mathlib.Core.Path.{_≡_, refl, _∙_}
 use mathlib.Core.List.{[], _∷_}

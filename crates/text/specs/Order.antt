@@ -1,4 +1,4 @@
--- The order of map keys in document 01's words, "by their bytes".
+-- The order of map keys in the rules' words, "by their bytes".
 use Prim.Native.Nat.{ℕ, _<_}
 use mathlib.Core.Path.{_≡_}
 use mathlib.Core.List.{[], _∷_}

@@ -29,7 +29,7 @@ use Rattle.scalar.proofs.Casts.{ScalarKind, int, long, float, double, short, wi
 use Rattle.frame.specs.Kind
 use Rattle.frame.specs.Tree.{Value, kindOf, number}
 use Rattle.frame.specs.ValueFrame
-use Rattle.frame.specs.ValueFrame.{table, content, readValue, encodeValue}
+use Rattle.frame.specs.ValueFrame.{contents, kindContent, readValue, encodeValue}
 use Rattle.frame.proofs.Reading.{read-what}
 use Rattle.buffer.specs.Built.{Built, Wrote}
 use Rattle.buffer.specs.declared.Answer.{Answer}
@@ -41,16 +41,16 @@ use Rattle.types.proofs.ScalarLaws.{int-content, long-content, float-co
 
 -- ---- the width of a kind
 
-pub scalar-content : (k : ℕ) → ScalarKind k → content k ≡ ValueFrame.wide (widthOf k)
-scalar-content k (int e) = ap content e ∙ int-content ∙ ap ValueFrame.wide (sym (int-4 k e))
-scalar-content k (long e) = ap content e ∙ long-content ∙ ap ValueFrame.wide (sym (long-8 k e))
-scalar-content k (float e) = ap content e ∙ float-content ∙ ap ValueFrame.wide (sym (float-4 k e))
-scalar-content k (double e) = ap content e ∙ double-content ∙ ap ValueFrame.wide (sym (double-8 k e))
+pub scalar-content : (k : ℕ) → ScalarKind k → kindContent k ≡ ValueFrame.wide (widthOf k)
+scalar-content k (int e) = ap kindContent e ∙ int-content ∙ ap ValueFrame.wide (sym (int-4 k e))
+scalar-content k (long e) = ap kindContent e ∙ long-content ∙ ap ValueFrame.wide (sym (long-8 k e))
+scalar-content k (float e) = ap kindContent e ∙ float-content ∙ ap ValueFrame.wide (sym (float-4 k e))
+scalar-content k (double e) = ap kindContent e ∙ double-content ∙ ap ValueFrame.wide (sym (double-8 k e))
 scalar-content k (short l h) = short-time-content k l (omega arith) ∙ ap ValueFrame.wide (sym (short-4 k l h))
 scalar-content k (wide l h) = long-time-content k l h ∙ ap ValueFrame.wide (sym (wide-8 k l))
 
-kind-content : (s : Scalar) → content (Scalars.kindOf s) ≡ ValueFrame.wide (widthOf (Scalars.kindOf s))
-unfolding table isShort
+kind-content : (s : Scalar) → kindContent (Scalars.kindOf s) ≡ ValueFrame.wide (widthOf (Scalars.kindOf s))
+unfolding contents isShort
 kind-content (Int z) = refl
 kind-content (Long z) = refl
 kind-content (Float x) = refl

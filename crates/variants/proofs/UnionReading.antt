@@ -25,7 +25,7 @@ use Rattle.frame.proofs.Reading.{read-what, read-rest, not-both, bind-inv, read
 use Rattle.frame.proofs.Counting.{First, many-first, many-none, many-length, list-some}
 use Rattle.frame.proofs.SchemaNodes.{schema-there, schema-opened, count-variants}
 use Rattle.schema_parts.proofs.Tables.{lead-short, lead-got}
-use Rattle.variants.specs.Ways.{unionVariants, kindTable, namedTable, OnRead, Passed, Numbers, countOf}
+use Rattle.variants.specs.Ways.{unionVariants, kindTable, namedTable, OnRead, VariantAt, Numbers, countOf}
 
 -- ---- what was read
 
@@ -158,7 +158,7 @@ module _ (d : ℕ) (s : List ℕ) (t : Schema) (p : Parts d s t) where
 
   -- ---- the walk over the variants
 
-  pub passed-start : Passed d s 0 3
+  pub passed-start : VariantAt d s 0 3
   passed-start =
       let z : numberAt s 1 2 - 0 ≡ numberAt s 1 2 = omega arith in
       record { variants = p .variants; rest = p .behind; all = p .reads-variants; inside = p .long; left = ap (λ k. readMany (readSchema (d - 1)) k (drop 3 s)) z ∙ p .reads-variants }
@@ -170,7 +170,7 @@ drop-others xs i a ys e = sym (drop-drop 1 i xs) ∙ ap (drop 1) e
 getD-first : {A : Type 0} (xs : List A) (i : ℕ) (z a : A) (ys : List A) → drop i xs ≡ a ∷ ys → getD xs i z ≡ a
 getD-first xs i z a ys e = ap (λ k. getD xs k z) (sym (add-zero i)) ∙ sym (getD-drop i xs 0 z) ∙ ap (λ l. getD l 0 z) e
 
-module _ (d : ℕ) (s : List ℕ) (i r : ℕ) (w : Passed d s i r) (h : i < numberAt s 1 2) where
+module _ (d : ℕ) (s : List ℕ) (i r : ℕ) (w : VariantAt d s i r) (h : i < numberAt s 1 2) where
   pub passed-first : First (readSchema (d - 1)) (numberAt s 1 2 - i) (drop r s) (drop i (w .variants)) (w .rest)
   passed-first = many-first (readSchema (d - 1)) (numberAt s 1 2 - i) (drop r s) (drop i (w .variants)) (w .rest) (omega arith) (w .left)
 
@@ -180,7 +180,7 @@ module _ (d : ℕ) (s : List ℕ) (i r : ℕ) (w : Passed d s i r) (h : i < numb
   pub passed-reads : Reads (readSchema (d - 1) (drop r s))
   passed-reads = let q = passed-first in reads-some (q .item) (q .behind) (q .first)
 
-  pub passed-step : (m : ℕ) → Spans (readSchema (d - 1) (drop r s)) (drop r s) m → Passed d s (i + 1) (r + m)
+  pub passed-step : (m : ℕ) → Spans (readSchema (d - 1) (drop r s)) (drop r s) m → VariantAt d s (i + 1) (r + m)
   unfolding Spans
   passed-step m v =
       let q = passed-first in
@@ -195,12 +195,12 @@ module _ (d : ℕ) (s : List ℕ) (i r : ℕ) (w : Passed d s i r) (h : i < numb
       }
 
 -- the variants that were passed over are the tree's
-pub passed-variants : (d : ℕ) (s : List ℕ) (t : Schema) (p : Parts d s t) (i r : ℕ) (w : Passed d s i r) → w .variants ≡ p .variants
+pub passed-variants : (d : ℕ) (s : List ℕ) (t : Schema) (p : Parts d s t) (i r : ℕ) (w : VariantAt d s i r) → w .variants ≡ p .variants
 passed-variants d s t p i r w = read-what (sym (w .all) ∙ p .reads-variants)
 
 -- ---- the tables, behind all variants
 
-module _ (d : ℕ) (s : List ℕ) (t : Schema) (p : Parts d s t) (n r : ℕ) (w : Passed d s n r) (e : n ≡ numberAt s 1 2) where
+module _ (d : ℕ) (s : List ℕ) (t : Schema) (p : Parts d s t) (n r : ℕ) (w : VariantAt d s n r) (e : n ≡ numberAt s 1 2) where
   table-behind : drop r s ≡ p .behind
   table-behind =
       many-none (readSchema (d - 1)) (numberAt s 1 2 - n) (drop r s) (drop n (w .variants)) (w .rest) (omega arith) (w .left) .1

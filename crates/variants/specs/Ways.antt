@@ -88,7 +88,7 @@ wantedOf Wanted.Any = none
 -- ---- places in a union's part
 
 -- i of the variants are passed at r
-pub record Passed (depth : ℕ) (s : List ℕ) (i r : ℕ) : Type 0 where
+pub record VariantAt (depth : ℕ) (s : List ℕ) (i r : ℕ) : Type 0 where
   pub variants : List Schema
   pub rest : List ℕ
   pub all : readMany (readSchema (depth - 1)) (numberAt s 1 2) (drop 3 s) ≡ some (variants, rest)

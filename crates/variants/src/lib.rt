@@ -13,7 +13,7 @@ ghost use Rattle.frame.specs.Readers.{readList};
 ghost use Rattle.frame.specs.SchemaFrame.{readLead, readSchema};
 ghost use Rattle.buffer.specs.Built.{Built};
 ghost use Rattle.avro.specs.Union.{mustBeTried, namedKind, tableLookup, unnamedKind};
-ghost use Rattle.variants.specs.Ways.{foundOf, kindTable, namedTable, wantedOf, Among, Numbers, OnRead, Passed, WasNamed, baseRead, isAt, lookupRead, soonerOf};
+ghost use Rattle.variants.specs.Ways.{foundOf, kindTable, namedTable, wantedOf, Among, Numbers, OnRead, VariantAt, WasNamed, baseRead, isAt, lookupRead, soonerOf};
 
 // A variant that was tried and resolves, with the length of what it made; or that there is none.
 pub enum Tried {
@@ -126,7 +126,7 @@ pub fn base_kind(s: &[u8], depth: usize) -> u8
 // Where a union's variant i stands; behind the last of them, where its kind table does.
 pub fn variant_at(s: &[u8], i: usize, depth: usize) -> usize
     requires { ⌜ Reads (readSchema depth (now s)) × (getD (now s) 0 0 ≡ 10) × (i ≤ numberAt (now s) 1 2) ⌝ }
-    ensures { λ r. ⌜ Passed depth (now (s .entry)) i r ⌝ }
+    ensures { λ r. ⌜ VariantAt depth (now (s .entry)) i r ⌝ }
 {
     let mut at: usize = 3;
     let mut j: usize = 0;

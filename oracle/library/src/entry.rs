@@ -1,4 +1,4 @@
-//! The C entry, and what document 01 wants of a call.
+//! The C entry, and what the scope wants of a call.
 use oracle::answer::Answer;
 use oracle::frame::MAX_FRAME;
 

@@ -1,5 +1,5 @@
 //! Cases from a seed: a schema frame and value frames, in families that each try one part of
-//! document 01. The same seed gives the same cases.
+//! the scope. The same seed gives the same cases.
 mod alike;
 mod damage;
 mod frames;

@@ -1,4 +1,4 @@
-// The refusals of document 01, each in one place.
+// The refusals of docs/RULES.md, each in one place.
 use std::fmt;
 
 /// What a refusal is of.
@@ -22,7 +22,7 @@ macro_rules! refusals {
         /// The library's answer to a schema that it doesn't take, or to a record that it doesn't
         /// bring to the schema.
         ///
-        /// The numbers are those of document 01, the scope, and the library looks for them in their
+        /// The numbers are those of docs/RULES.md, the scope, and the library looks for them in their
         /// order.
         #[derive(Clone, Copy, Debug, PartialEq, Eq, PartialOrd, Ord, Hash)]
         #[repr(u8)]

@@ -4,7 +4,7 @@ use Prim.Native.Nat.{_-_, _≤_}
 use native.Mathlib.Omega.{arith}
 use borrow.Author.Needs.{needs}
 use Rattle.uuid.proofs.Digits.{hexDigit-some, hexDigit-none}
-use Rattle.hex.specs.Line.{Holds}
+use Rattle.hex.specs.Line.{LineHeld}
 use Rattle.hex.proofs.LineLaws.{Read, read-nothing, read-pair, high-broken, low-broken, odd-broken, long-line, broken-line, whole-line, held}
 use Rattle.hex.proofs.from_hex.Statement.{statement}
 use Rattle.hex.proofs.from_hex.Tie as tie
@@ -18,7 +18,7 @@ abbrev μ-loop : tie.MeasureT-loop
 μ-loop line out₀ pairs values i₀ out i = pairs - i
 
 returns : tie.Need-returns Inv-loop μ-loop
-unfolding Holds
+unfolding LineHeld
 returns c = (long-line _ _ (c .if1 .taken), refl)
 
 values-requires : tie.Need-values-requires Inv-loop μ-loop
@@ -40,7 +40,7 @@ same-length : tie.Need-same-length Inv-loop μ-loop
 same-length c = c .before .before .before .before .before .loop .inv .1 .size
 
 returns-2 : tie.Need-returns-2 Inv-loop μ-loop
-unfolding Holds
+unfolding LineHeld
 returns-2 c =
     let e = high-broken _ _ _ _ (omega arith) (hexDigit-none _ _ (c .before .value .ensures) (c .if2 .taken)) (c .before .before .before .before .before .loop .inv .1) in
     (broken-line _ _ (c .before .before .before .before .before .before .before .if1 .left) e, c .before .before .before .before .before .loop .inv .1 .size)
@@ -61,7 +61,7 @@ same-length-2 : tie.Need-same-length-2 Inv-loop μ-loop
 same-length-2 c = c .before .before .before .before .before .before .before .before .before .loop .inv .1 .size
 
 returns-3 : tie.Need-returns-3 Inv-loop μ-loop
-unfolding Holds
+unfolding LineHeld
 returns-3 c =
     let high = hexDigit-some _ _ (c .before .before .before .before .before .value .ensures) (c .before .before .before .before .if2 .left) in
     let e = low-broken _ _ _ _ _ (omega arith) high (hexDigit-none _ _ (c .before .value2 .ensures) (c .if3 .taken)) (c .before .before .before .before .before .before .before .before .before .loop .inv .1) in
@@ -95,7 +95,7 @@ same-length-3 : tie.Need-same-length-3 Inv-loop μ-loop
 same-length-3 c = c .before .before .loop .inv .1 .size
 
 returns-4 : tie.Need-returns-4 Inv-loop μ-loop
-unfolding Holds
+unfolding LineHeld
 returns-4 c =
     let e = odd-broken _ _ _ _ (omega arith) (c .before .before .loop .inv .1) in
     (broken-line _ _ (c .before .before .before .before .if1 .left) e, c .before .before .loop .inv .1 .size)

@@ -7,13 +7,13 @@ use borrow.Rule.Slice.PartAt.{part-to-end}
 use Rattle.text.specs.Measured.{Reads}
 use Rattle.frame.proofs.Measuring.{spans-le}
 use Rattle.frame.proofs.SchemaNodes.{schema-there}
-use Rattle.variants.specs.Ways.{Passed}
+use Rattle.variants.specs.Ways.{VariantAt}
 use Rattle.variants.proofs.UnionReading.{union-parts, passed-start, passed-reads, passed-step}
 use Rattle.variants.proofs.variant_at.Statement.{statement}
 use Rattle.variants.proofs.variant_at.Tie as tie
 
 abbrev Inv-loop : tie.InvT-loop
-Inv-loop s i depth at₀ j₀ at j = (j ≤ i) × Passed depth s j at
+Inv-loop s i depth at₀ j₀ at j = (j ≤ i) × VariantAt depth s j at
 
 abbrev μ-loop : tie.MeasureT-loop
 μ-loop s i depth at₀ j₀ at j = i - j
@@ -51,7 +51,7 @@ loop-again : tie.Need-loop-again Inv-loop μ-loop
 loop-again c = (omega arith, passed-step (c .before .before .before .before .before .args .depth) (c .before .before .before .before .before .args .s .now) (c .before .before .before .loop .j) (c .before .before .before .loop .at) (c .before .before .before .loop .inv .1) (omega (arith, c .before .before .before .before .before .pre .2, c .before .before .loop-test .taken)) _ (rw part-to-end at (c .schema-len .ensures)))
 
 returns : tie.Need-returns Inv-loop μ-loop
-returns c = let e : c .before .loop .j ≡ c .before .before .before .args .i = omega arith in subst (λ k. Passed (c .before .before .before .args .depth) (c .before .before .before .args .s .now) k (c .before .loop .at)) e (c .before .loop .inv .1)
+returns c = let e : c .before .loop .j ≡ c .before .before .before .args .i = omega arith in subst (λ k. VariantAt (c .before .before .before .args .depth) (c .before .before .before .args .s .now) k (c .before .loop .at)) e (c .before .loop .inv .1)
 
 pub variant-at-spec : {M : Type 1} → statement M
 variant-at-spec =

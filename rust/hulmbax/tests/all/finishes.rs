@@ -1,4 +1,4 @@
-// The finishes to check by of document 01, and its example of program `resolve`.
+// The finishes to check by of docs/RULES.md, and its example of program `resolve`.
 use crate::common::{bytes, decimal, line, nullable, resolved};
 use hulmbax::schema::InnerDecimalSchema;
 use hulmbax::{Refusal, Schema, Value};

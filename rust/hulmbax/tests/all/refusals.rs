@@ -1,4 +1,4 @@
-// A schema and a record for each refusal of document 01.
+// A schema and a record for each refusal of docs/RULES.md.
 use crate::common::{decimal, fixed, nullable, record, resolved, symbols};
 use hulmbax::frame::{resolve, RESULT_LEN, WORKSPACE_LEN};
 use hulmbax::schema::{InnerDecimalSchema, UnionSchema, UuidSchema};

@@ -32,7 +32,7 @@ use borrow.Author.Tests.{not-true, not-false}
 use Rattle.resolution.proofs.FieldLoop.{FieldLoop, fields-begin, fields-ready, fields-step}
 use Rattle.text.specs.Measured.{Reads}
 use Rattle.resolution.specs.UnionContract.{OnBoth}
-use Rattle.variants.specs.Ways.{Passed}
+use Rattle.variants.specs.Ways.{VariantAt}
 use Rattle.variants.proofs.UnionReading.{passed-step}
 use Rattle.resolution.proofs.UnionCycle.{NoneBelow, NoneTaken, wrote-sixth, count-small, ready-long, ready-deep, ready-count, ready-below, below-ready, ready-start, variant-ready, variant-reads, variant-accepted, variant-refused, kind-tried, try-other, try-one, naming-start, naming-end, naming-below, naming-step, naming-hit, naming-inside, naming-before, before-inside, try-before, again-table, again-inside, again-named, again-one, table-yet, union-yet, searching-start, searching-end, searching-step, searching-hit, stands-below, any-found, any-none, table-count, table-accepted, table-untried, table-named, table-any, table-other, named-wanted, named-unwanted, union-table, union-index, union-named, union-first}
 use borrow.Fn.Kinds.{In}
@@ -542,7 +542,7 @@ fields-returns-2 : (t : ℕ) → fields-lts.Need-returns-2 (fields-claims t) (fi
 fields-returns-2 t c = loop-end _ _ _ _ _ _ _ _ _ (c .before .loop .inv .loop) (c .loop-test .left)
 
 abbrev find-any-Inv-loop : find-any-lts.InvT-loop
-find-any-Inv-loop s v out₀ ds dv tried count named i₀ from₀ out i from = (i ≤ count) × (Passed ds s i from × ((length out ≡ length out₀) × OnBoth (NoneBelow i) (readSchema ds s) (readValue dv v)))
+find-any-Inv-loop s v out₀ ds dv tried count named i₀ from₀ out i from = (i ≤ count) × (VariantAt ds s i from × ((length out ≡ length out₀) × OnBoth (NoneBelow i) (readSchema ds s) (readValue dv v)))
 
 abbrev find-any-μ-loop : find-any-lts.MeasureT-loop
 find-any-μ-loop s v out₀ ds dv tried count named i₀ from₀ out i from = count - i

@@ -56,7 +56,7 @@ part-repeats-start c = reads-list _ _ (c .before .before .before .before .before
 
 repeats-requires : tie.Need-repeats-requires Inv-loop μ-loop
 unfolding lowSlot highSlot nameMark
-repeats-requires c κs = rw part-to-end (looking-reads (readSchema (c .before .before .before .before .before .before .before .before .before .before .before .before .before .before .before .before .args .depth)) (lowSlot (c .before .before .before .before .before .before .before .before .before .before .before .before .before .before .before .before .args .few)) (highSlot (c .before .before .before .before .before .before .before .before .before .before .before .before .before .before .before .before .args .few)) (c .before .before .before .before .before .before .before .before .before .before .before .before .before .before .before .before .args .s .now) _ _ _ _ (c .before .before .before .before .before .before .before .before .before .before .before .before .loop .inv .2), (λ fs u e z. looking-low (readSchema (c .before .before .before .before .before .before .before .before .before .before .before .before .before .before .before .before .args .depth)) (lowSlot (c .before .before .before .before .before .before .before .before .before .before .before .before .before .before .before .before .args .few)) (highSlot (c .before .before .before .before .before .before .before .before .before .before .before .before .before .before .before .before .args .few)) (c .before .before .before .before .before .before .before .before .before .before .before .before .before .before .before .before .args .s .now) _ _ _ _ (c .before .before .before .before .before .before .before .before .before .before .before .before .loop .inv .2) (c .before .before .before .before .before .before .before .before .before .content .result .now) _ _ (c .before .before .before .before .before .before .before .low-slot .ensures ∙ ap (lowOf (c .before .before .before .before .before .before .before .before .before .before .before .before .before .before .before .before .args .few)) (c .before .before .before .before .before .before .before .before .hash .ensures)) (c .before .before .before .before .before .mark .ensures ∙ ap markOf (c .before .before .before .before .before .before .before .before .hash .ensures)) (sym (c .before .before .before .may-be .ensures) ∙ z) fs u e), (λ fs u e z. looking-high (readSchema (c .before .before .before .before .before .before .before .before .before .before .before .before .before .before .before .before .args .depth)) (lowSlot (c .before .before .before .before .before .before .before .before .before .before .before .before .before .before .before .before .args .few)) (highSlot (c .before .before .before .before .before .before .before .before .before .before .before .before .before .before .before .before .args .few)) (c .before .before .before .before .before .before .before .before .before .before .before .before .before .before .before .before .args .s .now) _ _ _ _ (c .before .before .before .before .before .before .before .before .before .before .before .before .loop .inv .2) (c .before .before .before .before .before .before .before .before .before .content .result .now) _ _ (c .before .before .before .before .before .before .high-slot .ensures ∙ ap (highOf (c .before .before .before .before .before .before .before .before .before .before .before .before .before .before .before .before .args .few)) (c .before .before .before .before .before .before .before .before .hash .ensures)) (c .before .before .before .before .before .mark .ensures ∙ ap markOf (c .before .before .before .before .before .before .before .before .hash .ensures)) (sym (c .before .may-be2 .ensures) ∙ z) fs u e))
+repeats-requires c κs = rw part-to-end (looking-reads (readSchema (c .before .before .before .before .before .before .before .before .before .before .before .before .before .before .before .before .args .depth)) (lowSlot (c .before .before .before .before .before .before .before .before .before .before .before .before .before .before .before .before .args .few)) (highSlot (c .before .before .before .before .before .before .before .before .before .before .before .before .before .before .before .before .args .few)) (c .before .before .before .before .before .before .before .before .before .before .before .before .before .before .before .before .args .s .now) _ _ _ _ (c .before .before .before .before .before .before .before .before .before .before .before .before .loop .inv .2), (λ fs u e z. looking-low (readSchema (c .before .before .before .before .before .before .before .before .before .before .before .before .before .before .before .before .args .depth)) (lowSlot (c .before .before .before .before .before .before .before .before .before .before .before .before .before .before .before .before .args .few)) (highSlot (c .before .before .before .before .before .before .before .before .before .before .before .before .before .before .before .before .args .few)) (c .before .before .before .before .before .before .before .before .before .before .before .before .before .before .before .before .args .s .now) _ _ _ _ (c .before .before .before .before .before .before .before .before .before .before .before .before .loop .inv .2) (c .before .before .before .before .before .before .before .before .before .content .result .now) _ _ (c .before .before .before .before .before .before .before .low-slot .ensures ∙ ap (lowOf (c .before .before .before .before .before .before .before .before .before .before .before .before .before .before .before .before .args .few)) (c .before .before .before .before .before .before .before .before .hash .ensures)) (c .before .before .before .before .before .name-mark .ensures ∙ ap markOf (c .before .before .before .before .before .before .before .before .hash .ensures)) (sym (c .before .before .before .may-be .ensures) ∙ z) fs u e), (λ fs u e z. looking-high (readSchema (c .before .before .before .before .before .before .before .before .before .before .before .before .before .before .before .before .args .depth)) (lowSlot (c .before .before .before .before .before .before .before .before .before .before .before .before .before .before .before .before .args .few)) (highSlot (c .before .before .before .before .before .before .before .before .before .before .before .before .before .before .before .before .args .few)) (c .before .before .before .before .before .before .before .before .before .before .before .before .before .before .before .before .args .s .now) _ _ _ _ (c .before .before .before .before .before .before .before .before .before .before .before .before .loop .inv .2) (c .before .before .before .before .before .before .before .before .before .content .result .now) _ _ (c .before .before .before .before .before .before .high-slot .ensures ∙ ap (highOf (c .before .before .before .before .before .before .before .before .before .before .before .before .before .before .before .before .args .few)) (c .before .before .before .before .before .before .before .before .hash .ensures)) (c .before .before .before .before .before .name-mark .ensures ∙ ap markOf (c .before .before .before .before .before .before .before .before .hash .ensures)) (sym (c .before .may-be2 .ensures) ∙ z) fs u e))
 
 same-length : tie.Need-same-length Inv-loop μ-loop
 same-length c = c .before .before .before .before .before .before .before .before .before .before .before .before .before .before .loop .inv .0
@@ -98,7 +98,7 @@ loop-again c =
     let k = c .before .before .before .before .before .before .before .before .before .before .before .before .before .before .high-slot .result in
     let low : j < length (c .before .before .before .before .before .before .before .before .before .before .before .before .before .before .before .before .before .before .before .before .loop .table) = omega (arith, c .before .before .before .before .before .before .before .before .before .before .before .before .before .before .before .low-slot .ensures, low-inside (c .before .before .before .before .before .before .before .before .before .before .before .before .before .before .before .before .before .before .before .before .before .before .before .before .args .few) (c .before .before .before .before .before .before .before .before .before .before .before .before .before .before .before .before .hash .result), c .before .before .before .before .before .before .before .before .before .before .before .before .before .before .before .before .before .before .before .before .before .before .before .before .pre .1, c .before .before .before .before .before .before .before .before .before .before .before .before .before .before .before .before .before .before .before .before .loop .inv .0) in
     let high : k < length (c .before .before .before .before .before .before .before .before .before .before .before .before .before .before .before .before .before .before .before .before .loop .table) = omega (arith, c .before .before .before .before .before .before .before .before .before .before .before .before .before .before .high-slot .ensures, high-inside (c .before .before .before .before .before .before .before .before .before .before .before .before .before .before .before .before .before .before .before .before .before .before .before .before .args .few) (c .before .before .before .before .before .before .before .before .before .before .before .before .before .before .before .before .hash .result), c .before .before .before .before .before .before .before .before .before .before .before .before .before .before .before .before .before .before .before .before .before .before .before .before .pre .1, c .before .before .before .before .before .before .before .before .before .before .before .before .before .before .before .before .before .before .before .before .loop .inv .0) in
-    (simp length-set (c .before .before .before .before .before .before .before .before .before .before .before .before .before .before .before .before .before .before .before .before .loop .inv .0), omega (arith, c .before .before .before .before .before .before .before .before .before .before .before .before .before .before .before .before .before .before .before .before .loop .inv .1, c .before .before .before .before .before .before .before .before .before .before .before .before .before .before .before .before .before .before .before .loop-test .taken), looking-step (readSchema (c .before .before .before .before .before .before .before .before .before .before .before .before .before .before .before .before .before .before .before .before .before .before .before .before .args .depth)) (lowSlot (c .before .before .before .before .before .before .before .before .before .before .before .before .before .before .before .before .before .before .before .before .before .before .before .before .args .few)) (highSlot (c .before .before .before .before .before .before .before .before .before .before .before .before .before .before .before .before .before .before .before .before .before .before .before .before .args .few)) (c .before .before .before .before .before .before .before .before .before .before .before .before .before .before .before .before .before .before .before .before .before .before .before .before .args .s .now) _ _ _ _ (c .before .before .before .before .before .before .before .before .before .before .before .before .before .before .before .before .before .before .before .before .loop .inv .2) (c .before .before .before .before .before .before .before .before .before .before .before .before .before .before .before .before .before .before .before .loop-test .taken) (c .before .before .before .before .before .before .before .before .before .before .before .before .before .before .before .before .before .content .result .now) _ (rw part-to-end at (c .before .before .before .before .before .before .before .before .before .before .before .before .before .before .before .before .before .content .ensures .0)) _ (rw part-to-end at (c .before .before .before .before .before .before .before .repeats .ensures)) (c .before .before .before .before .before .before .if1 .left) j k _ _ _ (c .before .before .before .before .before .before .before .before .before .before .before .before .before .before .before .low-slot .ensures ∙ ap (lowOf (c .before .before .before .before .before .before .before .before .before .before .before .before .before .before .before .before .before .before .before .before .before .before .before .before .args .few)) (c .before .before .before .before .before .before .before .before .before .before .before .before .before .before .before .before .hash .ensures)) (c .before .before .before .before .before .before .before .before .before .before .before .before .before .before .high-slot .ensures ∙ ap (highOf (c .before .before .before .before .before .before .before .before .before .before .before .before .before .before .before .before .before .before .before .before .before .before .before .before .args .few)) (c .before .before .before .before .before .before .before .before .before .before .before .before .before .before .before .before .hash .ensures)) (c .before .before .before .before .before .before .before .before .before .before .before .before .before .mark .ensures ∙ ap markOf (c .before .before .before .before .before .before .before .before .before .before .before .before .before .before .before .before .hash .ensures)) low high (c .before .before .before .before .take .ensures) (c .before .before .take2 .ensures) _ (rw part-to-end at (c .field-len .ensures)))
+    (simp length-set (c .before .before .before .before .before .before .before .before .before .before .before .before .before .before .before .before .before .before .before .before .loop .inv .0), omega (arith, c .before .before .before .before .before .before .before .before .before .before .before .before .before .before .before .before .before .before .before .before .loop .inv .1, c .before .before .before .before .before .before .before .before .before .before .before .before .before .before .before .before .before .before .before .loop-test .taken), looking-step (readSchema (c .before .before .before .before .before .before .before .before .before .before .before .before .before .before .before .before .before .before .before .before .before .before .before .before .args .depth)) (lowSlot (c .before .before .before .before .before .before .before .before .before .before .before .before .before .before .before .before .before .before .before .before .before .before .before .before .args .few)) (highSlot (c .before .before .before .before .before .before .before .before .before .before .before .before .before .before .before .before .before .before .before .before .before .before .before .before .args .few)) (c .before .before .before .before .before .before .before .before .before .before .before .before .before .before .before .before .before .before .before .before .before .before .before .before .args .s .now) _ _ _ _ (c .before .before .before .before .before .before .before .before .before .before .before .before .before .before .before .before .before .before .before .before .loop .inv .2) (c .before .before .before .before .before .before .before .before .before .before .before .before .before .before .before .before .before .before .before .loop-test .taken) (c .before .before .before .before .before .before .before .before .before .before .before .before .before .before .before .before .before .content .result .now) _ (rw part-to-end at (c .before .before .before .before .before .before .before .before .before .before .before .before .before .before .before .before .before .content .ensures .0)) _ (rw part-to-end at (c .before .before .before .before .before .before .before .repeats .ensures)) (c .before .before .before .before .before .before .if1 .left) j k _ _ _ (c .before .before .before .before .before .before .before .before .before .before .before .before .before .before .before .low-slot .ensures ∙ ap (lowOf (c .before .before .before .before .before .before .before .before .before .before .before .before .before .before .before .before .before .before .before .before .before .before .before .before .args .few)) (c .before .before .before .before .before .before .before .before .before .before .before .before .before .before .before .before .hash .ensures)) (c .before .before .before .before .before .before .before .before .before .before .before .before .before .before .high-slot .ensures ∙ ap (highOf (c .before .before .before .before .before .before .before .before .before .before .before .before .before .before .before .before .before .before .before .before .before .before .before .before .args .few)) (c .before .before .before .before .before .before .before .before .before .before .before .before .before .before .before .before .hash .ensures)) (c .before .before .before .before .before .before .before .before .before .before .before .before .before .name-mark .ensures ∙ ap markOf (c .before .before .before .before .before .before .before .before .before .before .before .before .before .before .before .before .hash .ensures)) low high (c .before .before .before .before .take .ensures) (c .before .before .take2 .ensures) _ (rw part-to-end at (c .field-len .ensures)))
 
 same-length-2 : tie.Need-same-length-2 Inv-loop μ-loop
 same-length-2 c = c .before .loop .inv .0

@@ -1,0 +1,3 @@
+pub mod Matches
+pub mod Stability
+pub mod Claims
