@@ -88,9 +88,3 @@ held d o o₀ i room even r = (room, r .size, (λ b e. front b e))
         let same : take i o ≡ b = cc in
         let n : length b ≡ i = ap length (sym same) ∙ length-take-le i o (omega (arith, r .size)) in
         sym (take-append-drop i o) ∙ ap (λ (t : List ℕ). take i o ++ t) (r .rest) ∙ ap (λ (t : List ℕ). t ++ drop i o₀) same ∙ ap (λ (k : ℕ). b ++ drop k o₀) (sym n)
-
--- ---- for callers
-
-pub frame-fits : (f : Frame) (n : ℕ) (d o o' : List ℕ) → f ≡ Of n → LineHeld f d o o' → n ≤ length o
-unfolding LineHeld
-frame-fits f n d o o' e h = (rw e at h) .0

@@ -85,11 +85,6 @@ pub lines-last : (s : Text) → lineEnd s ≡ length s → 0 < length s → line
 lines-last [] h g = absurd (omega arith)
 lines-last (c ∷ s) h g = lines-only (c ∷ s) h
 
--- and where there are no characters, there is no line
-pub lines-none : lines [] ≡ []
-unfolding lines
-lines-none = refl
-
 -- ---- a line in pieces
 
 module _ (s : Text) where

@@ -4,12 +4,13 @@ use mathlib.Core.Path.{_≡_, refl, sym, ap, _∙_, subst}
 use mathlib.Core.List.{List, [], _∷_}
 use mathlib.Core.Option.{Option, none, some, Option·map, orElse}
 use mathlib.Core.Bool.{Bool, true, false, _&&_, _||_, not}
-use lib.Dec.{T, ltb, eqb, eqb→eq, eqb-refl, not-T}
+use lib.Dec.{T, ltb, eqb, eqb-refl, not-T}
 use lib.ListN.{length}
 use lib.Ieee.Bits.{is-true, is-false}
-use lib.Ieee.Fits.{and-l, and-r, and-i}
+use lib.Ieee.Fits.{and-l, and-i}
 use Rattle.base.specs.Base.{if_then_else_, Result, ok, stop, after}
 use Rattle.text.specs.Text.{Text, same}
+use Rattle.text.proofs.TextLaws.{same→≡}
 use Rattle.frame.specs.Kind
 use Rattle.frame.specs.Tree.{Value, Values, Entries, Schema, Fields, noItems, item, noEntries, entry, noFields, field, noVariants, variant, kindOf, items, entries, peel, schemaKind}
 use Rattle.frame.specs.ValueFrame.{encodeValue}
@@ -28,16 +29,6 @@ use Rattle.stability.specs.Claims.{AreAlike, Alike}
 use Rattle.stability.proofs.Induction.{pair, EveryField, Steps, induction}
 
 -- ---- texts
-
-pub same→eq : (s t : Text) → T (same s t) → s ≡ t
-unfolding same
-same→eq [] [] h = refl
-same→eq [] (y ∷ ys) h = absurd h
-same→eq (x ∷ xs) [] h = absurd h
-same→eq (x ∷ xs) (y ∷ ys) h =
-    let p : x ≡ y = eqb→eq x y (and-l (eqb x y) (same xs ys) h) in
-    let q : xs ≡ ys = same→eq xs ys (and-r (eqb x y) (same xs ys) h) in
-    λ i. p i ∷ q i
 
 pub same-refl : (s : Text) → T (same s s)
 unfolding same
@@ -156,7 +147,7 @@ lastUnder-keep g n f e (entry m v es) = go (same m n) refl (lastUnder-keep g n f
     go : (b : Bool) → same m n ≡ b → lastUnder n (keepEntries g es) ≡ Option·map f (lastUnder n es)
         → lastUnder n (keepEntry m v (g m v) (hasName m es) (keepEntries g es)) ≡ Option·map f (orElse (lastUnder n es) (if same m n then some v else none))
     go true p ih =
-        let q : m ≡ n = same→eq m n (subst (λ (b : Bool). T b) (sym p) tt) in
+        let q : m ≡ n = same→≡ m n (subst (λ (b : Bool). T b) (sym p) tt) in
         rw (p, q, e v, has-lastUnder n es) (keep-hit n v (f v) f (lastUnder n es) (keepEntries g es) refl ih)
     go false p ih = rw (p, orElse-none (lastUnder n es)) (keep-miss n m v (g m v) (hasName m es) (keepEntries g es) p ∙ ih)
 
@@ -170,7 +161,7 @@ Agrees g noFields = Unit
 Agrees g (field n d s fs) = ((v : Value) → g n v ≡ some (strip s v)) × Agrees g fs
 
 same-sym : (m n : Text) → same m n ≡ false → same n m ≡ false
-same-sym m n h = is-false (same n m) (not-T (same n m) (λ t. subst (λ (b : Bool). T b) (sym (ap (λ (x : Text). same m x) (same→eq n m t)) ∙ h) (same-refl m)))
+same-sym m n h = is-false (same n m) (not-T (same n m) (λ t. subst (λ (b : Bool). T b) (sym (ap (λ (x : Text). same m x) (same→≡ n m t)) ∙ h) (same-refl m)))
 
 -- a field in front, of another name, doesn't matter
 agrees-behind : (m : Text) (d : Option Value) (s : Schema) (gs : Fields) (fs : Fields) → T (not (hasField m fs)) → Agrees (stripField gs) fs

@@ -10,11 +10,11 @@ use lib.ListN.{length, getD}
 use lib.Ieee.Fits.{and-l, and-r}
 use Rattle.base.specs.Base.{if_then_else_}
 use Rattle.text.specs.Text.{Text, same}
+use Rattle.text.proofs.TextLaws.{same→≡}
 use Rattle.frame.specs.Kind
 use Rattle.frame.specs.Tree.{Value, Values, Entries, Schema, Fields, Variants, noEntries, entry, noFields, field, noVariants, variant, kindOf, is, index, octets, items, entries, peel, schemaKind}
 use Rattle.stability.specs.Matches.{allItems, allEntries, symbolAt, statedSize, agrees, fieldsAgree, variantAgrees, matches, namesAre, exactNames, exactFields}
 use Rattle.stability.specs.Stability.{hasName}
-use Rattle.stability.proofs.Alike.{same→eq}
 use Rattle.stability.proofs.Meeting.{Item, Held, item-holds, entry-holds}
 use Rattle.stability.proofs.Stripping.{names}
 
@@ -64,7 +64,7 @@ module _ (decimal : Option ℕ → List ℕ → Bool) where
       go : (b : Bool) → same m n ≡ b → T (if b then agrees decimal s v && fieldsAgree decimal fs es else fieldsAgree decimal fs (entry m v es))
           → (T (fieldsAgree decimal fs es) → InOrder (names es) (fieldNames fs)) → (T (fieldsAgree decimal fs (entry m v es)) → InOrder (m ∷ names es) (fieldNames fs))
           → InOrder (m ∷ names es) (n ∷ fieldNames fs)
-      go true p h f g = rw (same→eq m n (rw p tt)) (taken (f (and-r (agrees decimal s v) (fieldsAgree decimal fs es) h)))
+      go true p h f g = rw (same→≡ m n (rw p tt)) (taken (f (and-r (agrees decimal s v) (fieldsAgree decimal fs es) h)))
       go false p h f g = passed (g h)
 
   pub fields-in-order : (fs : Fields) (es : Entries) → T (agrees decimal (Schema.Record fs) (Value.Record es)) → InOrder (names es) (fieldNames fs)
@@ -86,7 +86,7 @@ module _ (decimal : Option ℕ → List ℕ → Bool) where
   symbol-at : (ss : List Text) (i : ℕ) (t : Text) → T (symbolAt ss i t) → (i < length ss) × (getD ss i [] ≡ t)
   unfolding symbolAt
   symbol-at [] i t h = absurd h
-  symbol-at (s ∷ ss) zero t h = (omega arith, same→eq s t h)
+  symbol-at (s ∷ ss) zero t h = (omega arith, same→≡ s t h)
   symbol-at (s ∷ ss) (suc i) t h = let r : (i < length ss) × (getD ss i [] ≡ t) = symbol-at ss i t h in (omega (arith, r .0), r .1)
 
   pub matches-symbol : (ss : List Text) (d : Option Text) (i : ℕ) (t : Text) → T (agrees decimal (Schema.Enum ss d) (Value.Enum i t)) → (i < length ss) × (getD ss i [] ≡ t)
@@ -125,7 +125,7 @@ names-are noFields noEntries h = refl
 names-are noFields (entry m v es) h = absurd h
 names-are (field n d s fs) noEntries h = absurd h
 names-are (field n d s fs) (entry m v es) h =
-    let p : m ≡ n = same→eq m n (and-l (same m n) (namesAre fs es) h) in
+    let p : m ≡ n = same→≡ m n (and-l (same m n) (namesAre fs es) h) in
     let q : names es ≡ fieldNames fs = names-are fs es (and-r (same m n) (namesAre fs es) h) in
     λ i. p i ∷ q i
 

@@ -13,6 +13,7 @@ use Rattle.base.specs.Base.{if_then_else_, ok, stop, after, accepted}
 use Rattle.base.proofs.Okay.{Okay, okay-if, okay-after, okay-is, okay-any, Found}
 use Rattle.utf8.specs.Utf8.{isUtf8}
 use Rattle.text.specs.Text.{Text, same}
+use Rattle.text.proofs.TextLaws.{same→≡}
 use Rattle.decimal.specs.Decimal.{tooShortFor}
 use Rattle.uuid.specs.Uuid.{uuidOfText}
 use Rattle.scalar.specs.Conversion.{longOfInt, inInt, intOfLong, floatOfInt, floatOfLong, doubleOfInt, doubleOfLong, floatOfDouble, doubleOfFloat, parse-special-float}
@@ -30,7 +31,7 @@ use Rattle.types.specs.Types
 use Rattle.types.proofs.ScalarLaws.{int-time-kept, long-time-kept}
 use Rattle.avro.specs.Union
 use Rattle.stability.proofs.Induction.{pair, EveryField, Steps, induction}
-use Rattle.stability.proofs.Alike.{same→eq, same-refl, null-is}
+use Rattle.stability.proofs.Alike.{same-refl, null-is}
 
 -- ---- kinds
 
@@ -375,7 +376,7 @@ lastUnder-none n noFields (entry m v rs) f h = absurd f
 lastUnder-none n (field k d s fs) noEntries f h = absurd f
 lastUnder-none n (field k d s fs) (entry m v rs) f h =
     let f₁ : T (same m k && fits s v) = and-l (same m k && fits s v) (fieldsFit fs rs) f in
-    let e : m ≡ k = same→eq m k (and-l (same m k) (fits s v) f₁) in
+    let e : m ≡ k = same→≡ m k (and-l (same m k) (fits s v) f₁) in
     go (same k n) refl h (λ g. lastUnder-none n fs rs (and-r (same m k && fits s v) (fieldsFit fs rs) f) g) e
   where
     go : (b : Bool) → same k n ≡ b → T (not (b || hasField n fs)) → (T (not (hasField n fs)) → Resolve.lastUnder n rs ≡ none) → m ≡ k

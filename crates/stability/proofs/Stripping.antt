@@ -9,13 +9,14 @@ use lib.Dec.{T, T-not}
 use lib.Ieee.Bits.{is-true, is-false}
 use Rattle.base.specs.Base.{if_then_else_}
 use Rattle.text.specs.Text.{Text, same}
+use Rattle.text.proofs.TextLaws.{same→≡}
 use Rattle.frame.specs.Kind
 use Rattle.frame.specs.Tree.{Value, Values, Entries, Schema, Fields, item, noEntries, entry, noFields, field, noVariants, variant, entries}
 use Rattle.frame.specs.Sound.{fieldsSound, hasField}
 use Rattle.frame.proofs.SoundLaws.{sound-field}
 use Rattle.avro.specs.Resolve.{lastUnder}
 use Rattle.stability.specs.Stability.{isNull, underUnion, change, mapItems, mapEntries, hasName, keepEntry, keepEntries, strip, stripField}
-use Rattle.stability.proofs.Alike.{same→eq, same-refl, lastUnder-keep, null-strip}
+use Rattle.stability.proofs.Alike.{same-refl, lastUnder-keep, null-strip}
 use Rattle.stability.proofs.Meeting.{FieldOf, this-field, later-field}
 
 -- what a Record or a Map keeps that meets a Record schema
@@ -90,7 +91,7 @@ differ fs m n v w h e = go (same m n) refl
   where
     go : (b : Bool) → same m n ≡ b → b ≡ false
     go true p =
-        let q : m ≡ n = same→eq m n (rw p tt) in
+        let q : m ≡ n = same→≡ m n (rw p tt) in
         let r : true ≡ false = sym (ap present e) ∙ strip-has fs n v ∙ ap (λ (k : Text). hasField k fs) (sym q) ∙ h in
         let z : _≡_ {A = ℕ} 0 1 = cc in
         absurd (omega arith)
@@ -134,7 +135,7 @@ strip-at {n} (later-field {m = m} {e = e} {t = t} {fs = fs} i) h v =
   where
     go : (b : Bool) → same m n ≡ b → T (not (hasField m fs)) → b ≡ false
     go true p new =
-        let q : m ≡ n = same→eq m n (rw p tt) in
+        let q : m ≡ n = same→≡ m n (rw p tt) in
         absurd (T-not (hasField m fs) new (rw (ap (λ (k : Text). hasField k fs) q ∙ field-has i) tt))
     go false p new = refl
 
