@@ -1,7 +1,8 @@
 /* The C interface of Hulmbax: brings an Avro record to a reader schema.
  *
  * Link with libhulmbax.a, which `rt staticlib hulmbax` writes to target/staticlib/ (x86-64 Linux).
- * README.md at the top of the repository says what the bytes of a frame are.
+ * docs/RULES.md at the top of the repository has every rule: the bytes of a frame, the order of the
+ * checks, and what each pair of kinds gives.
  */
 #ifndef HULMBAX_H
 #define HULMBAX_H

@@ -27,6 +27,9 @@
 //! # Ok::<(), hulmbax::Error>(())
 //! ```
 //!
+//! Every rule that decides an answer is in `docs/RULES.md` at the top of the repository: the bytes of
+//! a frame, the order of the checks, what each pair of kinds gives, how a union chooses.
+//!
 //! The names are those of apache-avro, where it has them; module [`apache_avro`] has the code that
 //! maps that crate's values and schemas onto these. Module [`frame`] is the byte level below.
 //!

@@ -22,7 +22,7 @@ macro_rules! refusals {
         /// The library's answer to a schema that it doesn't take, or to a record that it doesn't
         /// bring to the schema.
         ///
-        /// The numbers are those of docs/RULES.md, the scope, and the library looks for them in their
+        /// The numbers are those of docs/RULES.md, and the library looks for them in their
         /// order.
         #[derive(Clone, Copy, Debug, PartialEq, Eq, PartialOrd, Ord, Hash)]
         #[repr(u8)]

@@ -1,7 +1,7 @@
 //! Frames, the bytes that the library reads and writes, and its entries over them.
 //!
 //! [`Reader`](crate::Reader) makes the frames itself; this module is for a program that has frames
-//! already, or that keeps buffers of its own. README.md at the top of the repository says what the
+//! already, or that keeps buffers of its own. docs/RULES.md at the top of the repository says what the
 //! bytes of a frame are.
 
 pub(crate) mod bytes;
