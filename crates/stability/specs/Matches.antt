@@ -1,4 +1,4 @@
--- What it is for a value to match a schema (docs/RULES.md, "Frames"), and to have exactly the schema's field names.
+-- What it is for a value to match a schema (docs/RULES.md, "What is promised of results"), and to have exactly the schema's field names.
 use Prim.Native.Nat.{ℕ, zero, suc}
 use mathlib.Core.List.{List, [], _∷_}
 use mathlib.Core.Option.{Option, none, some}
