@@ -19,7 +19,7 @@ pub fn answer(
     ensures { λ r. ⌜ (r ≡ length (answerLine (answer (now (schema .entry)) (now (value .entry)) 65535 workspaceSize))) × (r ≤ 131073) ⌝ }
     ensures { λ _. ⌜ now (out .exit) ≡ answerLine (answer (now (schema .entry)) (now (value .entry)) 65535 workspaceSize) ++ drop (length (answerLine (answer (now (schema .entry)) (now (value .entry)) 65535 workspaceSize))) (now (out .entry)) ⌝ }
 {
-    match hulmbax::resolve(schema, value, result, workspace) {
+    match calls::call(schema, value, result, workspace) {
         Resolved::Accepted(n) => lines::accepted(&result[..n], out),
         Resolved::Refused(e) => lines::refused(e, out),
     }

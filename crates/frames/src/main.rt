@@ -130,6 +130,7 @@ fn report(t: Tally) {
 
 fn main() {
     if lines::output::usage(
+        os::arg_count(),
         b"usage: frames < LIST\nReads a list of frames and their marks from standard input. It takes no arguments.\n",
     ) {
         return;

@@ -4,6 +4,7 @@ use crate::calls;
 use crate::calls::Step;
 ghost use mathlib.Core.Path.{_≡_};
 ghost use mathlib.Core.Bool.{false};
+ghost use lib.Dec.{ltb};
 
 // Writes all of the bytes; whether it could.
 fn written(bytes: &[u8]) -> bool {
@@ -47,9 +48,12 @@ pub fn put_hex(ok: bool, n: u64, width: usize) -> bool
     put(ok, &text[..k])
 }
 
-// Whether the program was started with arguments. It takes none, so then it says on standard error how it is used, and does nothing else.
-pub fn usage(text: &[u8]) -> bool {
-    if os::arg_count() < 2 {
+// Whether a program whose words are so many, its name among them, was started with arguments. It takes none, so then it says on standard error
+// how it is used, and does nothing else.
+pub fn usage(words: usize, text: &[u8]) -> bool
+    ensures { λ r. ⌜ r ≡ ltb 1 words ⌝ }
+{
+    if words <= 1 {
         return false;
     }
     io::write_all(2, text);

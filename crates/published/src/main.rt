@@ -25,6 +25,7 @@ fn all(block: &mut [u8], text: &mut [u8]) {
 
 fn main() {
     if lines::output::usage(
+        os::arg_count(),
         b"usage: published < EXAMPLES\nReads worked examples, a line each, from standard input. It takes no arguments.\n",
     ) {
         return;

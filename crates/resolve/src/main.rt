@@ -141,6 +141,7 @@ fn run(
 // How the program is used.
 fn asked() -> bool {
     lines::output::usage(
+        os::arg_count(),
         b"usage: resolve < LINES > ANSWERS\n\
 Brings Avro values to a reader schema. It takes no arguments.\n\
 Each line of standard input is a frame in hexadecimal: first the schema, then values. A line ends in a newline\n\

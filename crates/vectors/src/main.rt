@@ -84,10 +84,16 @@ fn totals(t: Replay, accepted: u64) -> bool {
     counted(ok, b"accepted: ", accepted)
 }
 
-fn main() {
-    if lines::output::usage(
+// Whether there are arguments; the usage then.
+fn asked() -> bool {
+    lines::output::usage(
+        os::arg_count(),
         b"usage: vectors < LIST\nReads a list of recorded answers from standard input. It takes no arguments.\n",
-    ) {
+    )
+}
+
+fn main() {
+    if asked() {
         return;
     }
     let mut block = [0u8; 65536];
