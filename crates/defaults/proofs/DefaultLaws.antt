@@ -28,14 +28,15 @@ use Rattle.avro.specs.Resolve.{resolve, startDefault}
 use Rattle.avro.specs.Defaults.{defaultsShort, shortDefault, shortStart}
 use Rattle.avro.proofs.WalkSentences.{start-plain, start-tried, start-null}
 use Rattle.field.specs.Parts.{FieldParts, DefaultAt}
-use Rattle.resolution.specs.Contract.{Ready, nodeBytes}
+use Rattle.walk.specs.Contract.{nodeBytes}
+use Rattle.variants.specs.Ways.{Ready}
 use Rattle.defaults.specs.Shortness.{SoundRead, testRead, ShortLen, fieldShort}
 use Rattle.field.specs.declared.FieldAt.{FieldAt}
 use Rattle.defaults.proofs.SoundParts.{test-some, zero-fails, some-passes, some-spans, len-le, fails-zero, passes-len, short-ready}
-use Rattle.resolution.proofs.ReadParts.{ready-reads}
-use Rattle.resolution.proofs.Pieces.{both-some}
-use Rattle.resolution.proofs.FieldBytes.{Given, default-given, default-none}
-use Rattle.resolution.proofs.DefaultBytes.{first-variant, first-kind}
+use Rattle.variants.proofs.UnionReading.{ready-reads}
+use Rattle.walk.proofs.Pieces.{both-some}
+use Rattle.walk.proofs.FieldBytes.{Given, default-given, default-none}
+use Rattle.walk.proofs.DefaultBytes.{first-variant, first-kind}
 
 pub ready-there : (d : ℕ) (s : List ℕ) → Ready d s → (0 < d) × (0 < length s)
 ready-there d s w = schema-there d s (ready-reads d s w)

@@ -26,9 +26,9 @@ use Rattle.frame.proofs.SchemaNodes.{schema-there, schema-kind}
 use Rattle.schema.specs.Parts.{fieldSound}
 use Rattle.avro.specs.Defaults.{defaultsShort, fieldDefaultsShort, variantDefaultsShort}
 use Rattle.frame.proofs.SoundLaws.{sound-union, sound-variant}
-use Rattle.resolution.specs.Contract.{Ready}
+use Rattle.variants.specs.Ways.{Ready}
 use Rattle.defaults.specs.Shortness.{SoundRead, testRead, ShortLen, nextLen, fieldShort}
-use Rattle.resolution.proofs.ReadParts.{schema-array, schema-map, schema-fields}
+use Rattle.walk.proofs.ReadParts.{schema-array, schema-map, schema-fields}
 use Rattle.frame.proofs.Shrinking.{schema-spans-positive}
 use Rattle.variants.proofs.UnionReading.{union-parts}
 

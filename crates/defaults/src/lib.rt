@@ -2,8 +2,9 @@
 // against a variant whose own defaults are known to be short, so inner schemas come first.
 use buffer::Answer;
 use field::field_at;
-use resolution::resolve::resolve_node;
 use schema::schema_len;
+use walk::Walk;
+use walk::resolve_node;
 ghost use Prim.Native.Nat.{_<_, _^_};
 ghost use mathlib.Core.Path.{_≡_};
 ghost use lib.ListN.{getD};
@@ -13,7 +14,7 @@ ghost use Rattle.frame.specs.Sound.{defaultKinds, schemaSound};
 ghost use Rattle.avro.specs.Resolve.{startDefault};
 ghost use Rattle.avro.specs.Defaults.{defaultsShort, shortStart};
 ghost use Rattle.types.specs.Contract.{onBoth};
-ghost use Rattle.resolution.specs.Contract.{Ready};
+ghost use Rattle.variants.specs.Ways.{Ready};
 ghost use Rattle.schema.specs.Parts.{fieldSound};
 ghost use Rattle.defaults.specs.Shortness.{SoundRead, ShortLen, fieldShort, nextLen, testRead};
 
@@ -130,7 +131,11 @@ fn start_short(s: &[u8], d: &[u8], out: &mut [u8], ds: usize) -> bool
     if s[3] == 0x00 {
         return true;
     }
-    match resolve_node(&s[3..], d, out, ds - 1, 16) {
+    let first = Walk {
+        schema: ds - 1,
+        value: 16,
+    };
+    match resolve_node(first, &s[3..], d, out) {
         Answer::Accepted(n) => n <= 4096,
         Answer::Refused(_) => true,
     }

@@ -26,7 +26,7 @@ use Rattle.buffer.specs.declared.Answer.the-variants.{Accepted, Refused}
 use Rattle.types.specs.Contract.{encoded, onBoth}
 use Rattle.avro.specs.Resolve.{resolve}
 use Rattle.avro.specs.Defaults.{defaultsShort}
-use Rattle.resolution.specs.Contract.{Ready, nodeBytes}
+use Rattle.walk.specs.Contract.{Ready, nodeBytes}
 use Rattle.defaults.specs.Shortness.{SoundRead, testRead}
 use Rattle.avro.proofs.Refusals.{refusal-resolve}
 use Rattle.hulmbax.specs.Answer.{answer, answerFor, bufferAfter, workspaceAfter, checkedSchema, checkedValue, checkedResult, workspaceSize}

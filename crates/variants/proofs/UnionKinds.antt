@@ -8,7 +8,7 @@ use native.Mathlib.Omega.{arith}
 use lib.Dec.{leb, eqb}
 use lib.ListN.{length, drop, getD, length-drop}
 use lib.Seq.{drop-drop, getD-drop}
-use borrow.Author.Tests.{leb-true, leb-false, le-leb, lt-leb, ne-eqb, eqb-false, lt-ltb, le-ltb}
+use borrow.Author.Tests.{leb-true, leb-false, le-leb, lt-leb, ne-eqb, eqb-false}
 use Rattle.base.specs.Base.{if_then_else_}
 use Rattle.number.specs.Number.{numberAt}
 use Rattle.number.proofs.Laws.{numberAt-one}
@@ -21,12 +21,7 @@ use Rattle.frame.proofs.Reading.{read-what, read-rest, not-both, bind-inv, map-
 use Rattle.frame.proofs.SchemaNodes.{schema-kind}
 use Rattle.schema_parts.proofs.Leaves.{kind-past}
 use Rattle.avro.specs.Union.{schema-to-base-schemakind, unnamedKind, namedKind, mustBeTried}
-use Rattle.variants.specs.Ways.{wantedOf, Among, WasNamed, baseRead, soonerOf}
-use Rattle.find.specs.declared.Found.{Found}
-use Rattle.variants.specs.declared.Tried.{Tried}
-use Rattle.variants.specs.declared.Choice.{Choice}
-use Rattle.variants.specs.declared.Wanted.{Wanted}
-use Rattle.variants.specs.declared.Positions.{Positions}
+use Rattle.variants.specs.Ways.{baseRead}
 use Rattle.variants.proofs.UnionReading.{schema-content}
 
 -- ---- kinds to look for
@@ -339,29 +334,3 @@ map-tried k e = rw e
 pub array-tried : (k : ℕ) → (k ≡ 9 → ⊥) → eqb k 8 ≡ mustBeTried k
 unfolding mustBeTried
 array-tried k n = rw (ne-eqb k 9 n)
-
--- ---- which position comes first
-
-pub table-sooner : (u n m : ℕ) → u < n → Choice.Table u ≡ soonerOf (Found.At u) (Tried.At n m)
-unfolding soonerOf
-table-sooner u n m h = rw (lt-ltb u n h)
-
-pub named-sooner : (u n m : ℕ) → n ≤ u → Choice.Named n m ≡ soonerOf (Found.At u) (Tried.At n m)
-unfolding soonerOf
-named-sooner u n m h = rw (le-ltb u n h)
-
--- ---- named positions that were tried
-
-module _ (s : List ℕ) (p : Positions) (i : ℕ) (x : Wanted) (base : ℕ) where
-  pub was-any : x ≡ Wanted.Any → WasNamed s p i (wantedOf x) base false
-  unfolding WasNamed wantedOf
-  was-any e f = let z : _≡_ {A = Option ℕ} none (some base) = ap wantedOf (sym e) ∙ f in let y : _≡_ {A = ℕ} 0 1 = cc in absurd (omega arith)
-
-  pub was-other : (k : ℕ) → x ≡ Wanted.Kind k → (k ≡ base → ⊥) → WasNamed s p i (wantedOf x) base false
-  unfolding WasNamed wantedOf
-  was-other k e n f = let z : _≡_ {A = Option ℕ} (some k) (some base) = ap wantedOf (sym e) ∙ f in absurd (n (cc))
-
-  pub was-among : (k : ℕ) (b : Bool) → x ≡ Wanted.Kind k → k ≡ base → Among s (p .at) (p .count) i b → WasNamed s p i (wantedOf x) base b
-  unfolding WasNamed wantedOf
-  was-among k true e f h = (ap wantedOf e ∙ ap some f, h)
-  was-among k false e f h = λ g. h

@@ -25,7 +25,7 @@ use Rattle.frame.proofs.Reading.{read-what, read-rest, not-both, bind-inv, read
 use Rattle.frame.proofs.Counting.{First, many-first, many-none, many-length, list-some}
 use Rattle.frame.proofs.SchemaNodes.{schema-there, schema-opened, count-variants}
 use Rattle.schema_parts.proofs.Tables.{lead-short, lead-got}
-use Rattle.variants.specs.Ways.{unionVariants, kindTable, namedTable, OnRead, VariantAt, Numbers, countOf}
+use Rattle.variants.specs.Ways.{unionVariants, kindTable, namedTable, OnRead, Ready, VariantAt, Numbers, countOf}
 
 -- ---- what was read
 
@@ -36,6 +36,9 @@ on-read P x a r e h = rw e at h
 pub on-read-of : {A : Type 0} (P : A → Type 0) (x : Read A) (a : A) (r : List ℕ) → x ≡ some (a, r) → P a → OnRead P x
 unfolding OnRead
 on-read-of P x a r e h = rw e h
+
+pub ready-reads : (d : ℕ) (s : List ℕ) → Ready d s → Reads (readSchema d s)
+ready-reads d s q = reads-some (q .tree) (q .rest) (q .reads)
 
 -- ---- things of w bytes each
 

@@ -1,23 +1,21 @@
 -- What the ways into a union schema require, and what their answers say.
 use Prim.Native.Nat.{ℕ, _+_, _-_, _*_, _≤_, _<_}
 use mathlib.Core.Path.{_≡_}
-use mathlib.Core.List.{List, []}
+use mathlib.Core.List.{List, [], _∷_}
 use mathlib.Core.Option.{Option, none, some}
 use mathlib.Core.Bool.{Bool, true, false}
-use lib.Dec.{ltb, eqb}
+use lib.Dec.{T, eqb}
 use lib.ListN.{length, drop, getD}
-use Rattle.base.specs.Base.{if_then_else_}
 use Rattle.number.specs.Number.{numberAt}
 use Rattle.text.specs.Read.{Read}
 use Rattle.frame.specs.Tree.{Schema, Variants}
 use Rattle.frame.specs.Readers.{readMany}
 use Rattle.frame.specs.SchemaFrame.{readSchema}
-use Rattle.frame.specs.Sound.{countVariants}
+use Rattle.frame.specs.Sound.{countVariants, schemaSound}
+use Rattle.avro.specs.Defaults.{defaultsShort}
 use Rattle.avro.specs.Union.{schema-to-base-schemakind, lookupKind}
 use Rattle.find.specs.declared.Found.{Found}
-use Rattle.variants.specs.declared.Choice.{Choice}
 use Rattle.variants.specs.declared.Positions.{Positions}
-use Rattle.variants.specs.declared.Tried.{Tried}
 use Rattle.variants.specs.declared.Wanted.{Wanted}
 
 -- ---- a union's parts
@@ -62,7 +60,26 @@ namedTable (Schema.Union vs ks ns) = ns
 abbrev pub countOf : Schema → ℕ
 countOf t = countVariants (unionVariants t)
 
+-- the i-th variant
+unfoldable pub variantList : Variants → List Schema
+variantList Variants.noVariants = []
+variantList (Variants.variant s vs) = s ∷ variantList vs
+
+abbrev pub variantNth : Schema → ℕ → Schema
+variantNth t i = getD (variantList (unionVariants t)) i (Schema.Plain 0)
+
+unfoldable pub baseAt : Schema → ℕ → ℕ
+baseAt t i = schema-to-base-schemakind (variantNth t i)
+
 -- ---- of what was read
+
+-- a schema that was checked: sound, and its defaults short
+pub record Ready (depth : ℕ) (s : List ℕ) : Type 0 where
+  pub tree : Schema
+  pub rest : List ℕ
+  pub reads : readSchema depth s ≡ some (tree, rest)
+  pub sound : T (schemaSound tree)
+  pub short : T (defaultsShort tree)
 
 -- P of what a part holds
 unfoldable pub OnRead : {A : Type 0} → (A → Type 0) → Read A → Type 0
@@ -106,11 +123,6 @@ unfoldable pub Among : List ℕ → ℕ → ℕ → ℕ → Bool → Type 0
 Among s at n i true = (j : ℕ) × ((j < n) × (numberAt s (at + 2 * j) 2 ≡ i))
 Among s at n i false = (j : ℕ) → j < n → numberAt s (at + 2 * j) 2 ≡ i → ⊥
 
--- the position i of a base kind is a named one of the kind that is looked for, or is not
-unfoldable pub WasNamed : List ℕ → Positions → ℕ → Option ℕ → ℕ → Bool → Type 0
-WasNamed s p i wanted base true = (wanted ≡ some base) × Among s (p .at) (p .count) i true
-WasNamed s p i wanted base false = wanted ≡ some base → Among s (p .at) (p .count) i false
-
 unfoldable pub isAt : Found → ℕ → Bool
 isAt (Found.At u) i = eqb u i
 isAt Found.Nothing i = false
@@ -119,12 +131,3 @@ isAt Found.Nothing i = false
 unfoldable pub lookupRead : ℕ → Read (List (ℕ × ℕ)) → Option ℕ
 lookupRead k none = none
 lookupRead k (some x) = lookupKind k (x .0)
-
--- ---- the choice
-
--- on both the smaller position, named when equal
-unfoldable pub soonerOf : Found → Tried → Choice
-soonerOf (Found.At u) (Tried.At n m) = if ltb u n then Choice.Table u else Choice.Named n m
-soonerOf (Found.At u) Tried.Nothing = Choice.Table u
-soonerOf Found.Nothing (Tried.At n m) = Choice.Named n m
-soonerOf Found.Nothing Tried.Nothing = Choice.Neither

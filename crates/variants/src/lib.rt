@@ -13,25 +13,12 @@ ghost use Rattle.frame.specs.Readers.{readList};
 ghost use Rattle.frame.specs.SchemaFrame.{readLead, readSchema};
 ghost use Rattle.buffer.specs.Built.{Built};
 ghost use Rattle.avro.specs.Union.{mustBeTried, namedKind, tableLookup, unnamedKind};
-ghost use Rattle.variants.specs.Ways.{foundOf, kindTable, namedTable, wantedOf, Among, Numbers, OnRead, VariantAt, WasNamed, baseRead, isAt, lookupRead, soonerOf};
-
-// A variant that was tried and resolves, with the length of what it made; or that there is none.
-pub enum Tried {
-    At(usize, usize),
-    Nothing,
-}
+ghost use Rattle.variants.specs.Ways.{foundOf, kindTable, namedTable, wantedOf, Among, Numbers, OnRead, VariantAt, baseRead, isAt, lookupRead};
 
 // The kind to look for in one of a union's tables, or that none is looked for.
 pub enum Wanted {
     Kind(u8),
     Any,
-}
-
-// Which variant of a union comes first: the kind table's, the named one with the length of what it made, or neither.
-pub enum Choice {
-    Table(usize),
-    Named(usize, usize),
-    Neither,
 }
 
 // Where the positions of named_index stand, and how many there are.
@@ -168,22 +155,6 @@ pub fn stands_in(s: &[u8], at: usize, n: usize, i: usize) -> bool
     false
 }
 
-// Whether i is a named position of the base kind that is looked for.
-pub fn was_named(s: &[u8], named: Positions, i: usize, wanted: Wanted, base: u8) -> bool
-    requires { ⌜ named .at + 2 * named .count ≤ length (now s) ⌝ }
-    ensures { λ r. ⌜ WasNamed (now (s .entry)) named i (wantedOf wanted) base r ⌝ }
-{
-    match wanted {
-        Wanted::Any => false,
-        Wanted::Kind(k) => {
-            if k != base {
-                return false;
-            }
-            stands_in(s, named.at, named.count, i)
-        }
-    }
-}
-
 // Whether the place that was found is i.
 pub fn is_at(found: Found, i: usize) -> bool
     ensures { λ r. ⌜ r ≡ isAt found i ⌝ }
@@ -236,27 +207,6 @@ pub fn is_tried(s: &[u8], depth: usize) -> bool
         return true;
     }
     kind == 0x08
-}
-
-// On both the smaller position, named when equal.
-pub fn sooner(table: Found, named: Tried) -> Choice
-    ensures { λ r. ⌜ r ≡ soonerOf table named ⌝ }
-{
-    match table {
-        Found::Nothing => match named {
-            Tried::Nothing => Choice::Neither,
-            Tried::At(n, m) => Choice::Named(n, m),
-        },
-        Found::At(u) => match named {
-            Tried::Nothing => Choice::Table(u),
-            Tried::At(n, m) => {
-                if u < n {
-                    return Choice::Table(u);
-                }
-                Choice::Named(n, m)
-            }
-        },
-    }
 }
 
 // Writes the kind and the index of a Union before what stands from the sixth byte on, m bytes.

@@ -3,7 +3,7 @@ use borrow.Author.Needs.{needs}
 use borrow.Rule.Slice.PartAt.{part-to-end}
 use native.Mathlib.Omega.{arith}
 use Rattle.defaults.proofs.SoundParts.{sound-reads}
-use Rattle.resolution.proofs.DefaultBytes.{first-long, first-ready}
+use Rattle.walk.proofs.DefaultBytes.{first-long, first-ready}
 use Rattle.defaults.proofs.DefaultLaws.{ready-there, alone-short, null-short, accepted-short, refused-short}
 use Rattle.defaults.proofs.start_short.Statement.{statement}
 use Rattle.defaults.proofs.start_short.Tie as tie

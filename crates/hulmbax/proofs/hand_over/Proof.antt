@@ -12,7 +12,7 @@ use Rattle.hulmbax.proofs.hand_over.Tie as tie
 use Rattle.hulmbax.proofs.hand_over.Reads as reads
 use Rattle.hulmbax.proofs.hand_over.Lts as lts
 use Rattle.buffer.proofs.copy.Reads as copy-reads
-use Rattle.resolution.proofs.resolve.resolve_node.Reads as resolve-node-reads
+use Rattle.walk.proofs.resolve.resolve_node.Reads as resolve-node-reads
 
 resolve-node-requires : tie.Need-resolve-node-requires
 resolve-node-requires c κs = passed-ready (c .before .before .before .before .before .args .schema .now) (c .before .before .before .before .before .args .«record» .now) (c .before .before .before .before .before .pre .0)

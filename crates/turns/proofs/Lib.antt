@@ -1,0 +1,4 @@
+pub mod Positions
+pub mod PartLaws
+pub mod DueLaws
+pub mod TurnLaws
