@@ -1,4 +1,5 @@
 // The public entry: a record brought to a reader schema.
+use base::refusal;
 use buffer::Answer;
 use frame::Verdict;
 ghost use mathlib.Core.Path.{_≡_};
@@ -20,13 +21,13 @@ fn schema_stop(schema: &[u8], work: &mut [u8]) -> u8
     ensures { λ r. ⌜ r ≡ stopOf (checkedSchema (decodeSchema (now (schema .entry)))) ⌝ }
 {
     match schema::schema_frame(schema) {
-        Verdict::NoFrame => 2,
-        Verdict::Unsound => 3,
+        Verdict::NoFrame => refusal::SCHEMA_NO_FRAME,
+        Verdict::Unsound => refusal::SCHEMA_UNSOUND,
         Verdict::Sound => {
             if defaults::defaults_short(schema, work, 16) {
                 0
             } else {
-                4
+                refusal::DEFAULT_TOO_LONG
             }
         }
     }
@@ -37,8 +38,8 @@ fn record_stop(record: &[u8]) -> u8
     ensures { λ r. ⌜ r ≡ stopOf (checkedValue (decodeValue (now («record» .entry)))) ⌝ }
 {
     match value::value_frame(record) {
-        Verdict::NoFrame => 5,
-        Verdict::Unsound => 5,
+        Verdict::NoFrame => refusal::RECORD_NO_FRAME,
+        Verdict::Unsound => refusal::RECORD_NO_FRAME,
         Verdict::Sound => 0,
     }
 }
@@ -52,10 +53,10 @@ fn hand_over(schema: &[u8], record: &[u8], result: &mut [u8], work: &mut [u8]) -
     match resolution::resolve::resolve_node(schema, record, work, 16, 16) {
         Answer::Accepted(n) => {
             if 65535 < n {
-                return Resolved::Refused(18);
+                return Resolved::Refused(refusal::RESULT_TOO_LONG);
             }
             if result.len() < n {
-                return Resolved::Refused(18);
+                return Resolved::Refused(refusal::RESULT_TOO_LONG);
             }
             buffer::copy(result, &work[..n]);
             Resolved::Accepted(n)
@@ -113,7 +114,7 @@ pub fn resolve(schema: &[u8], record: &[u8], result: &mut [u8], workspace: &mut 
     ensures cleared { λ _. ⌜ now (workspace .exit) ≡ workspaceAfter (answer (now (schema .entry)) (now («record» .entry)) (length (now (result .entry))) (length (now (workspace .entry)))) (now (workspace .entry)) ⌝ }
 {
     if workspace.len() < 65536 {
-        return Resolved::Refused(1);
+        return Resolved::Refused(refusal::WORKSPACE_TOO_SHORT);
     }
     let told = resolve_in(schema, record, result, &mut workspace[..65536]);
     buffer::clear(&mut workspace[..65536], used(told));
