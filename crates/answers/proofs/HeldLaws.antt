@@ -16,7 +16,7 @@ use Rattle.hex.specs.Hex.{frameOf}
 use Rattle.frame.specs.Readers.{whole}
 use Rattle.frame.specs.ValueFrame.{readValue, decodeValue}
 use Rattle.frame.specs.SchemaFrame.{readSchema, decodeSchema}
-use Rattle.hulmbax.specs.Answer.{answer}
+use Rattle.hulmbax.specs.Answer.{answer, recordAnswer}
 use Rattle.hulmbax.proofs.Computed.{computed}
 use Rattle.lines.specs.Line.{heldFrame}
 
@@ -69,5 +69,5 @@ unfolding decodeSchema computed
 schema-held room h l = held-decodes (readSchema 16) refl room h l
 
 pub held-answer : (room : ℕ) → 65535 ≤ room → (s v : Text) (len work : ℕ) → answer (heldFrame room s) (heldFrame room v) len work ≡ answer (frameOf s) (frameOf v) len work
-unfolding answer
+unfolding answer recordAnswer
 held-answer room h s v len work = rw (value-held room h v, schema-held room h s)

@@ -20,7 +20,7 @@ use Rattle.avro.specs.Resolve.{resolve}
 use Rattle.avro.specs.Defaults.{defaultsShort}
 use Rattle.avro.proofs.LongDefaults.{LongDefault, long-told, long-only}
 use Rattle.avro.proofs.Refusals.{refusal-resolve}
-use Rattle.hulmbax.specs.Answer.{answer, checkedSchema, checkedValue, checkedResult, workspaceSize}
+use Rattle.hulmbax.specs.Answer.{answer, answerFor, recordAnswer, checkedSchema, checkedValue, checkedResult, workspaceSize}
 
 -- ---- the sentences
 
@@ -89,8 +89,12 @@ module _ (schema value : List ℕ) (buffer workspace : ℕ) where
       go true h = by-outcome s p v (record { frame = e; keys = rw h tt }) (resolve s v) refl
       go false h = fallen-keys s p v e (rw h tt)
 
+  by-record : (s : Schema) → SchemaPasses schema workspace s → Way (recordAnswer s value buffer)
+  unfolding recordAnswer
+  by-record s p = by-value s p (decodeValue value) refl
+
   by-schema : 65536 ≤ workspace → (o : Option Schema) → decodeSchema schema ≡ o
-      → Way (after (checkedSchema o) (λ s. after (checkedValue (decodeValue value)) (λ v. after (resolve s v) (λ r. checkedResult buffer (encodeValue r)))))
+      → Way (after (checkedSchema o) (λ s. recordAnswer s value buffer))
   unfolding checkedSchema after
   by-schema room none e = no-schema room e
   by-schema room (some s) e = go (schemaSound s) (defaultsShort s) refl refl
@@ -102,8 +106,8 @@ module _ (schema value : List ℕ) (buffer workspace : ℕ) where
           omega arith
 
       go : (a b : Bool) → schemaSound s ≡ a → defaultsShort s ≡ b
-          → Way (after (if a then (if b then ok s else stop 4) else stop 3) (λ s. after (checkedValue (decodeValue value)) (λ v. after (resolve s v) (λ r. checkedResult buffer (encodeValue r)))))
-      go true true h k = by-value s (record { room = room; frame = e; sound = rw h tt; short = short k }) (decodeValue value) refl
+          → Way (after (if a then (if b then ok s else stop 4) else stop 3) (λ s. recordAnswer s value buffer))
+      go true true h k = by-record s (record { room = room; frame = e; sound = rw h tt; short = short k })
       go true false h k = long-default s room e (rw h tt) (long-only s (rw h tt) k)
       go false b h k = unsound-schema s room e (rw h tt)
 
@@ -111,8 +115,7 @@ module _ (schema value : List ℕ) (buffer workspace : ℕ) where
   unfolding answer
   answered = go (ltb workspace workspaceSize) refl
     where
-      go : (b : Bool) → ltb workspace workspaceSize ≡ b
-          → Way (if b then stop 1 else after (checkedSchema (decodeSchema schema)) (λ s. after (checkedValue (decodeValue value)) (λ v. after (resolve s v) (λ r. checkedResult buffer (encodeValue r)))))
+      go : (b : Bool) → ltb workspace workspaceSize ≡ b → Way (if b then stop 1 else answerFor schema value buffer)
       go true h = short-workspace (ltb→lt workspace workspaceSize (rw h tt))
       go false h = by-schema (nltb→le workspace workspaceSize (rw h tt)) (decodeSchema schema) refl
 
@@ -148,7 +151,7 @@ value-passes {v = v} w = rw (w .frame, is-true (keysRise v) (w .keys))
 
 module _ {schema value : List ℕ} {buffer workspace : ℕ} where
   pub answer-only : {x : Result (List ℕ)} → Answered schema value buffer workspace x → answer schema value buffer workspace ≡ x
-  unfolding answer checkedSchema checkedValue checkedResult after
+  unfolding answer recordAnswer checkedSchema checkedValue checkedResult after
   answer-only (short-workspace h) = rw (is-true (ltb workspace workspaceSize) (lt→ltb workspace workspaceSize h))
   answer-only (no-schema room e) = rw (room-false room, e)
   answer-only (unsound-schema s room e h) = rw (room-false room, e, is-false (schemaSound s) h)

@@ -1,5 +1,7 @@
 pub mod Finishes
 pub mod Computed
+pub mod CheckLaws
+pub mod RecordLaws
 pub mod EntryLaws
 pub mod Bounds
 pub mod CodeLaws

@@ -23,12 +23,15 @@ unfoldable pub stopOf : {A : Type 0} → Result A → ℕ
 stopOf (ok a) = 0
 stopOf (stop n) = n
 
--- both frames passed their checks
-pub record BothPass (schema record' : List ℕ) : Type 0 where
+-- a schema frame passed its checks, with this tree
+pub record PassedSchema (schema : List ℕ) : Type 0 where
   pub tree : Schema
-  pub value : Value
-  pub schema-is : checkedSchema (decodeSchema schema) ≡ ok tree
-  pub value-is : checkedValue (decodeValue record') ≡ ok value
+  pub passed : checkedSchema (decodeSchema schema) ≡ ok tree
+
+-- a value frame passed its check, with this tree
+pub record PassedValue (value : List ℕ) : Type 0 where
+  pub tree : Value
+  pub passed : checkedValue (decodeValue value) ≡ ok tree
 
 -- the answer as one signed number, for C: a length, or a refusal's number negated
 unfoldable pub codeOf : Resolved → ℤ

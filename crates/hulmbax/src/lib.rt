@@ -1,13 +1,15 @@
 // The public entry: a record brought to a reader schema.
+use base::refusal;
 use buffer::Answer;
 use frame::Verdict;
+use walk::Walk;
 ghost use mathlib.Core.Path.{_≡_};
 ghost use Prim.Native.Nat.{_-_};
 ghost use lib.ListN.{length};
 ghost use Rattle.frame.specs.ValueFrame.{decodeValue};
 ghost use Rattle.frame.specs.SchemaFrame.{decodeSchema};
-ghost use Rattle.hulmbax.specs.Answer.{answer, answerFor, bufferAfter, checkedSchema, checkedValue, workspaceAfter};
-ghost use Rattle.hulmbax.specs.Entry.{Bounded, BothPass, codeOf, resolvedOf, stopOf, usedFor};
+ghost use Rattle.hulmbax.specs.Answer.{answer, answerFor, bufferAfter, checkedSchema, checkedValue, recordAnswer, workspaceAfter};
+ghost use Rattle.hulmbax.specs.Entry.{Bounded, PassedSchema, PassedValue, codeOf, resolvedOf, stopOf, usedFor};
 
 // A result of so many bytes, or the number of what stopped the record.
 pub enum Resolved {
@@ -20,13 +22,13 @@ fn schema_stop(schema: &[u8], work: &mut [u8]) -> u8
     ensures { λ r. ⌜ r ≡ stopOf (checkedSchema (decodeSchema (now (schema .entry)))) ⌝ }
 {
     match schema::schema_frame(schema) {
-        Verdict::NoFrame => 2,
-        Verdict::Unsound => 3,
+        Verdict::NoFrame => refusal::SCHEMA_NO_FRAME,
+        Verdict::Unsound => refusal::SCHEMA_UNSOUND,
         Verdict::Sound => {
             if defaults::defaults_short(schema, work, 16) {
                 0
             } else {
-                4
+                refusal::DEFAULT_TOO_LONG
             }
         }
     }
@@ -37,25 +39,29 @@ fn record_stop(record: &[u8]) -> u8
     ensures { λ r. ⌜ r ≡ stopOf (checkedValue (decodeValue (now («record» .entry)))) ⌝ }
 {
     match value::value_frame(record) {
-        Verdict::NoFrame => 5,
-        Verdict::Unsound => 5,
+        Verdict::NoFrame => refusal::RECORD_NO_FRAME,
+        Verdict::Unsound => refusal::RECORD_NO_FRAME,
         Verdict::Sound => 0,
     }
 }
 
 // Resolves frames that passed their checks into the work slice, and hands over a result that fits.
 fn hand_over(schema: &[u8], record: &[u8], result: &mut [u8], work: &mut [u8]) -> Resolved
-    requires { ⌜ BothPass (now schema) (now «record») × (length (now work) ≡ 65536) ⌝ }
-    ensures answer { λ r. ⌜ r ≡ resolvedOf (answerFor (now (schema .entry)) (now («record» .entry)) (length (now (result .entry)))) ⌝ }
-    ensures contents { λ _. ⌜ now (result .exit) ≡ bufferAfter (answerFor (now (schema .entry)) (now («record» .entry)) (length (now (result .entry)))) (now (result .entry)) ⌝ }
+    requires { ⌜ PassedSchema (now schema) × PassedValue (now «record») × (length (now work) ≡ 65536) ⌝ }
+    ensures answer { λ r. ⌜ ((s : PassedSchema (now (schema .entry))) → r ≡ resolvedOf (recordAnswer (s .tree) (now («record» .entry)) (length (now (result .entry))))) ⌝ }
+    ensures contents { λ _. ⌜ ((s : PassedSchema (now (schema .entry))) → now (result .exit) ≡ bufferAfter (recordAnswer (s .tree) (now («record» .entry)) (length (now (result .entry)))) (now (result .entry))) ⌝ }
 {
-    match resolution::resolve::resolve_node(schema, record, work, 16, 16) {
+    let whole = Walk {
+        schema: 16,
+        value: 16,
+    };
+    match walk::resolve_node(whole, schema, record, work) {
         Answer::Accepted(n) => {
             if 65535 < n {
-                return Resolved::Refused(18);
+                return Resolved::Refused(refusal::RESULT_TOO_LONG);
             }
             if result.len() < n {
-                return Resolved::Refused(18);
+                return Resolved::Refused(refusal::RESULT_TOO_LONG);
             }
             buffer::copy(result, &work[..n]);
             Resolved::Accepted(n)
@@ -64,21 +70,31 @@ fn hand_over(schema: &[u8], record: &[u8], result: &mut [u8], work: &mut [u8]) -
     }
 }
 
-// All but the workspace, of which the first 65,536 bytes are lent.
+// One record under a schema that passed its checks. The work slice is 65,536 bytes long; what it holds plays no part, and nothing is
+// said of what it holds afterwards, so a caller may go on to the next record with it.
+fn one_record(schema: &[u8], record: &[u8], result: &mut [u8], work: &mut [u8]) -> Resolved
+    requires { ⌜ PassedSchema (now schema) × (length (now work) ≡ 65536) ⌝ }
+    ensures answer { λ r. ⌜ ((s : PassedSchema (now (schema .entry))) → r ≡ resolvedOf (recordAnswer (s .tree) (now («record» .entry)) (length (now (result .entry))))) ⌝ }
+    ensures contents { λ _. ⌜ ((s : PassedSchema (now (schema .entry))) → now (result .exit) ≡ bufferAfter (recordAnswer (s .tree) (now («record» .entry)) (length (now (result .entry)))) (now (result .entry))) ⌝ }
+{
+    let stop = record_stop(record);
+    if stop != 0 {
+        return Resolved::Refused(stop);
+    }
+    hand_over(schema, record, result, work)
+}
+
+// All but the workspace, of which the first 65,536 bytes are lent: what stops the schema, or what the record gets under it.
 fn resolve_in(schema: &[u8], record: &[u8], result: &mut [u8], work: &mut [u8]) -> Resolved
     requires { ⌜ length (now work) ≡ 65536 ⌝ }
     ensures answer { λ r. ⌜ r ≡ resolvedOf (answerFor (now (schema .entry)) (now («record» .entry)) (length (now (result .entry)))) ⌝ }
     ensures contents { λ _. ⌜ now (result .exit) ≡ bufferAfter (answerFor (now (schema .entry)) (now («record» .entry)) (length (now (result .entry)))) (now (result .entry)) ⌝ }
 {
-    let s = schema_stop(schema, work);
-    if s != 0 {
-        return Resolved::Refused(s);
+    let stop = schema_stop(schema, work);
+    if stop != 0 {
+        return Resolved::Refused(stop);
     }
-    let v = record_stop(record);
-    if v != 0 {
-        return Resolved::Refused(v);
-    }
-    hand_over(schema, record, result, work)
+    one_record(schema, record, result, work)
 }
 
 // How much of the workspace an answer has used, at a guess: its result, and what trials and defaults leave at the front.
@@ -103,7 +119,7 @@ pub fn resolve(schema: &[u8], record: &[u8], result: &mut [u8], workspace: &mut 
     ensures cleared { λ _. ⌜ now (workspace .exit) ≡ workspaceAfter (answer (now (schema .entry)) (now («record» .entry)) (length (now (result .entry))) (length (now (workspace .entry)))) (now (workspace .entry)) ⌝ }
 {
     if workspace.len() < 65536 {
-        return Resolved::Refused(1);
+        return Resolved::Refused(refusal::WORKSPACE_TOO_SHORT);
     }
     let told = resolve_in(schema, record, result, &mut workspace[..65536]);
     buffer::clear(&mut workspace[..65536], used(told));

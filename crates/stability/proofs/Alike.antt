@@ -20,7 +20,7 @@ use Rattle.types.specs.Types.{Outcome, resolvePlain, resolve-null}
 use Rattle.avro.specs.Union.{Trial, resolve-union}
 use Rattle.avro.specs.Resolve.{resolve, resolveFields, startDefault, trials, resolve-array, resolve-map, resolve-record, eachItem, eachEntry, fieldValue, lastUnder}
 use Rattle.avro.specs.Defaults.{defaultsShort}
-use Rattle.hulmbax.specs.Answer.{answer, checkedSchema, checkedValue, checkedResult, bufferAfter, workspaceAfter, workspaceSize}
+use Rattle.hulmbax.specs.Answer.{answer, recordAnswer, checkedSchema, checkedValue, checkedResult, bufferAfter, workspaceAfter, workspaceSize}
 use Rattle.hulmbax.specs.Entry.{resolvedOf}
 use Rattle.hulmbax.specs.declared.Resolved.{Resolved}
 use Rattle.frame.proofs.SoundLaws.{sound-field}
@@ -377,7 +377,7 @@ checked-same s p v w e k = go (schemaSound s) refl (defaultsShort s)
 
 answers-same : (schema a b : List ℕ) (tree : Schema) → decodeSchema schema ≡ some tree → T (nullablePairs tree) → AreAlike tree a b → (buffer workspace : ℕ)
     → answer schema a buffer workspace ≡ answer schema b buffer workspace
-unfolding answer checkedValue after
+unfolding answer recordAnswer checkedValue after
 answers-same schema a b tree e p l buffer workspace =
     rw (e, l .left-is, l .right-is, is-true (keysRise (l .left)) (l .left-keys), is-true (keysRise (l .right)) (l .right-keys))
     (ap (λ (r : Result (List ℕ)). if ltb workspace workspaceSize then stop 1 else r) (checked-same tree p (l .left) (l .right) (l .equal) (λ r. checkedResult buffer (encodeValue r))))

@@ -16,7 +16,7 @@ use Rattle.frame.specs.ValueFrame.{decodeValue, encodeValue}
 use Rattle.frame.specs.Sound.{keysRise, schemaSound}
 use Rattle.avro.specs.Resolve.{resolve}
 use Rattle.avro.specs.Defaults.{defaultsShort}
-use Rattle.hulmbax.specs.Answer.{answer, checkedSchema, checkedValue, checkedResult, bufferAfter, workspaceSize}
+use Rattle.hulmbax.specs.Answer.{answer, recordAnswer, checkedSchema, checkedValue, checkedResult, bufferAfter, workspaceSize}
 use Rattle.hulmbax.specs.Entry.{resolvedOf}
 use Rattle.hulmbax.specs.declared.Resolved.the-variants.{Accepted}
 use Rattle.hulmbax.proofs.Told.{ok-is, buffer-accepted}
@@ -92,7 +92,7 @@ made tree input buffer workspace =
     okay-after′ s p v q r e (stop n) w = tt
 
 made-of : {schema value result : List ℕ} (a : AcceptedCall schema value result) → Made (a .suits .tree) (a .suits .input) result
-unfolding answer
+unfolding answer recordAnswer
 made-of {schema} {value} {result} a =
     okay-is (Made (a .suits .tree) (a .suits .input)) _ result (made (a .suits .tree) (a .suits .input) (a .buffer) (a .workspace)) (rw (a .suits .schema-is, a .suits .value-is) at (a .result-is))
 
@@ -117,7 +117,7 @@ result-tree {schema} {value} {result} a =
 -- one repeat
 again : {schema value result : List ℕ} (a : AcceptedCall schema value result) (buffer workspace : ℕ) → length result ≤ buffer → workspaceSize ≤ workspace
     → answer schema result buffer workspace ≡ ok result
-unfolding answer checkedSchema checkedValue checkedResult after
+unfolding answer recordAnswer checkedSchema checkedValue checkedResult after
 again {schema} {value} {result} a buffer workspace b w =
     let m : Made (a .suits .tree) (a .suits .input) result = made-of a in
     let t : (r : Value) × (decodeValue result ≡ some r) × Stable (a .suits .tree) r × T (keysRise r) × (encodeValue r ≡ result) = result-tree a in

@@ -1,6 +1,6 @@
 -- `hulmbax::record_stop` meets its contract.
 use mathlib.Core.Path.{sym, _∙_}
-use Rattle.hulmbax.proofs.EntryLaws.{stop-no-value, stop-unsound-value, stop-value}
+use Rattle.hulmbax.proofs.CheckLaws.{stop-no-value, stop-unsound-value, stop-value}
 use borrow.Author.Needs.{needs}
 use Rattle.hulmbax.proofs.record_stop.Statement.{statement}
 use Rattle.hulmbax.proofs.record_stop.Tie as tie

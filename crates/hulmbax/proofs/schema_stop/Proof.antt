@@ -1,7 +1,7 @@
 -- `hulmbax::schema_stop` meets its contract.
 use mathlib.Core.Path.{sym, _∙_}
 use denote.Ref.{now}
-use Rattle.hulmbax.proofs.EntryLaws.{stop-no-schema, stop-unsound, sound-frame, sound-reads, stop-by-defaults}
+use Rattle.hulmbax.proofs.CheckLaws.{stop-no-schema, stop-unsound, sound-frame, sound-reads, stop-by-defaults}
 use borrow.Author.Needs.{needs}
 use Rattle.hulmbax.proofs.schema_stop.Statement.{statement}
 use Rattle.hulmbax.proofs.schema_stop.Tie as tie

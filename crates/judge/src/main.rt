@@ -1,11 +1,11 @@
-// Program frames: the readers' verdicts beside a list of what frames are known to be. A line of standard input is `s` or `v`, for a
+// Program judge: the readers' verdicts beside a list of what frames are known to be. A line of standard input is `s` or `v`, for a
 // schema or a value, the frame in hexadecimal, and a mark: `+` for a sound frame, else the number that stops it; or it begins with
 // `#` and says something. Each line whose frame has another mark is named, and at the end both are counted.
 use frame::Verdict;
 use lines::output::put;
 use lines::output::put_decimal;
 ghost use mathlib.Core.Path.{_≡_};
-ghost use Rattle.frames.specs.Mark.{schemaMark, valueMark, markOf};
+ghost use Rattle.judge.specs.Mark.{schemaMark, valueMark, markOf};
 
 // The lines read, the frames compared, those that differ, and whether every write so far went through.
 struct Tally {
@@ -131,7 +131,7 @@ fn report(t: Tally) {
 fn main() {
     if lines::output::usage(
         os::arg_count(),
-        b"usage: frames < LIST\nReads a list of frames and their marks from standard input. It takes no arguments.\n",
+        b"usage: judge < LIST\nReads a list of frames and their marks from standard input. It takes no arguments.\n",
     ) {
         return;
     }

@@ -1,9 +1,9 @@
--- `frames::schema_mark` meets its contract. Assumes nothing.
+-- `judge::schema_mark` meets its contract. Assumes nothing.
 use mathlib.Core.Path.{refl}
-use Rattle.frames.specs.Mark.{schemaMark}
+use Rattle.judge.specs.Mark.{schemaMark}
 use borrow.Author.Needs.{needs}
-use Rattle.frames.proofs.schema_mark.Statement.{statement}
-use Rattle.frames.proofs.schema_mark.Tie as tie
+use Rattle.judge.proofs.schema_mark.Statement.{statement}
+use Rattle.judge.proofs.schema_mark.Tie as tie
 
 returns : tie.Need-returns
 unfolding schemaMark

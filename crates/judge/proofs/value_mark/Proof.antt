@@ -1,9 +1,9 @@
--- `frames::value_mark` meets its contract. Assumes nothing.
+-- `judge::value_mark` meets its contract. Assumes nothing.
 use mathlib.Core.Path.{refl}
-use Rattle.frames.specs.Mark.{valueMark}
+use Rattle.judge.specs.Mark.{valueMark}
 use borrow.Author.Needs.{needs}
-use Rattle.frames.proofs.value_mark.Statement.{statement}
-use Rattle.frames.proofs.value_mark.Tie as tie
+use Rattle.judge.proofs.value_mark.Statement.{statement}
+use Rattle.judge.proofs.value_mark.Tie as tie
 
 returns : tie.Need-returns
 unfolding valueMark

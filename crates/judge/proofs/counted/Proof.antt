@@ -1,9 +1,9 @@
--- `frames::counted` is safe and ends. Assumes nothing.
+-- `judge::counted` is safe and ends. Assumes nothing.
 use mathlib.Core.Path.{sym}
 use lib.Seq.{length-take-le}
 use borrow.Author.Needs.{needs}
-use Rattle.frames.proofs.counted.Statement.{statement}
-use Rattle.frames.proofs.counted.Tie as tie
+use Rattle.judge.proofs.counted.Statement.{statement}
+use Rattle.judge.proofs.counted.Tie as tie
 
 slice-aggregate-frame-mark : tie.Need-slice-aggregate-frame-mark
 slice-aggregate-frame-mark c = sym (length-take-le _ _ (c .before .before .before .before .frame .ensures .0 .1))

@@ -1,10 +1,10 @@
--- `frames::frame_mark` meets its contract. Assumes nothing.
+-- `judge::frame_mark` meets its contract. Assumes nothing.
 use mathlib.Core.Path.{refl, ap, _∙_}
 use borrow.Author.Tests.{eq-eqb, ne-eqb}
-use Rattle.frames.specs.Mark.{schemaMark, valueMark, markOf}
+use Rattle.judge.specs.Mark.{schemaMark, valueMark, markOf}
 use borrow.Author.Needs.{needs}
-use Rattle.frames.proofs.frame_mark.Statement.{statement}
-use Rattle.frames.proofs.frame_mark.Tie as tie
+use Rattle.judge.proofs.frame_mark.Statement.{statement}
+use Rattle.judge.proofs.frame_mark.Tie as tie
 
 returns : tie.Need-returns
 unfolding markOf

@@ -1,11 +1,11 @@
--- `frames::all` is safe and ends. The reader and its buffers go together; the measure is the turns that are left. Assumes nothing.
+-- `judge::all` is safe and ends. The reader and its buffers go together; the measure is the turns that are left. Assumes nothing.
 use mathlib.Core.Path.{_≡_, refl}
 use native.Mathlib.Omega.{arith}
 use lib.ListN.{length}
 use Rattle.lines.specs.Held.{Held}
 use borrow.Author.Needs.{needs}
-use Rattle.frames.proofs.all.Statement.{statement}
-use Rattle.frames.proofs.all.Tie as tie
+use Rattle.judge.proofs.all.Statement.{statement}
+use Rattle.judge.proofs.all.Tie as tie
 
 abbrev Inv-loop : tie.InvT-loop
 Inv-loop block₀ line₀ room₀ r₀ t₀ turns₀ block line room r t turns = Held r block line × (length block ≡ length block₀) × (length line ≡ length line₀) × (length room ≡ length room₀)
