@@ -21,7 +21,10 @@ returns-2 : tie.Need-returns-2
 returns-2 c = null-short (c .before .before .before .before .before .before .before .args .ds) (c .before .before .before .before .before .before .before .args .s .now) (c .before .before .before .before .before .before .before .args .d .now) (c .before .before .before .before .before .before .before .pre .0) (c .before .before .before .before .before .before .before .pre .1) (c .before .before .if1 .left) (c .if2 .taken)
 
 sub-resolve-node : tie.Need-sub-resolve-node
-sub-resolve-node c = omega (arith, first-long (c .before .before .before .before .before .before .before .args .ds) (c .before .before .before .before .before .before .before .args .s .now) (c .before .before .before .before .before .before .before .pre .0) (c .before .before .if1 .left))
+sub-resolve-node c = ready-there (c .before .before .before .before .before .before .before .args .ds) (c .before .before .before .before .before .before .before .args .s .now) (c .before .before .before .before .before .before .before .pre .0) .0
+
+sub-resolve-node-2 : tie.Need-sub-resolve-node-2
+sub-resolve-node-2 c = omega (arith, first-long (c .before .before .before .before .before .before .before .args .ds) (c .before .before .before .before .before .before .before .args .s .now) (c .before .before .before .before .before .before .before .pre .0) (c .before .before .if1 .left))
 
 part-resolve-node-start : tie.Need-part-resolve-node-start
 part-resolve-node-start c = omega (arith, first-long (c .before .before .before .before .before .before .before .args .ds) (c .before .before .before .before .before .before .before .args .s .now) (c .before .before .before .before .before .before .before .pre .0) (c .before .before .if1 .left))
@@ -29,11 +32,8 @@ part-resolve-node-start c = omega (arith, first-long (c .before .before .before 
 part-resolve-node-end : tie.Need-part-resolve-node-end
 part-resolve-node-end c = search needs
 
-sub-resolve-node-2 : tie.Need-sub-resolve-node-2
-sub-resolve-node-2 c = ready-there (c .before .before .before .before .before .before .before .before .before .args .ds) (c .before .before .before .before .before .before .before .before .before .args .s .now) (c .before .before .before .before .before .before .before .before .before .pre .0) .0
-
 resolve-node-requires : tie.Need-resolve-node-requires
-resolve-node-requires c κs = (rw part-to-end (first-ready (c .before .before .before .before .before .before .before .before .before .args .ds) (c .before .before .before .before .before .before .before .before .before .args .s .now) (c .before .before .before .before .before .before .before .before .before .pre .0) (c .before .before .before .before .if1 .left)), sound-reads (c .before .before .before .before .before .before .before .before .before .pre .1))
+resolve-node-requires c κs = record { schema = rw part-to-end (first-ready (c .before .before .before .before .before .before .before .before .before .args .ds) (c .before .before .before .before .before .before .before .before .before .args .s .now) (c .before .before .before .before .before .before .before .before .before .pre .0) (c .before .before .before .before .if1 .left)); value = sound-reads (c .before .before .before .before .before .before .before .before .before .pre .1) }
 
 enum-known-n : tie.Need-enum-known-n
 enum-known-n c = search needs
@@ -62,9 +62,9 @@ start-short-spec =
     shared-slice-read-if2
     returns-2
     sub-resolve-node
+    sub-resolve-node-2
     part-resolve-node-start
     part-resolve-node-end
-    sub-resolve-node-2
     resolve-node-requires
     enum-known-n
     enum-told
