@@ -16,7 +16,7 @@ use Rattle.frame.specs.Tree.{Value, Values, Entries, Schema, Fields, noItems, i
 use Rattle.frame.specs.ValueFrame.{encodeValue}
 use Rattle.frame.specs.SchemaFrame.{decodeSchema}
 use Rattle.frame.specs.Sound.{keysRise, schemaSound, fieldsSound, hasField}
-use Rattle.types.specs.Types.{Outcome, resolvePlain, resolve-null}
+use Rattle.types.specs.Types.{Outcome, resolve-null}
 use Rattle.avro.specs.Union.{Trial, resolve-union}
 use Rattle.avro.specs.Resolve.{resolve, resolveFields, startDefault, trials, resolve-array, resolve-map, resolve-record, eachItem, eachEntry, fieldValue, lastUnder}
 use Rattle.avro.specs.Defaults.{defaultsShort}
@@ -24,9 +24,11 @@ use Rattle.hulmbax.specs.Answer.{answer, checkedSchema, checkedValue, checkedRe
 use Rattle.hulmbax.specs.Entry.{resolvedOf}
 use Rattle.hulmbax.specs.declared.Resolved.{Resolved}
 use Rattle.frame.proofs.SoundLaws.{sound-field}
-use Rattle.stability.specs.Stability.{nullablePair, nullablePairs, isNull, onlyNullLeadsTo, underUnion, change, mapItems, mapEntries, hasName, keepEntry, keepEntries, strip, stripField}
+use Rattle.avro.specs.Pairs.{nullablePair, nullablePairs, isNull, onlyNullLeadsTo}
+use Rattle.avro.proofs.SchemaCases.{childless, pair, EveryField, Steps, induction}
+use Rattle.avro.proofs.PairChoice.{null-is}
+use Rattle.stability.specs.Stability.{underUnion, change, mapItems, mapEntries, hasName, keepEntry, keepEntries, strip, stripField}
 use Rattle.stability.specs.Claims.{AreAlike, Alike}
-use Rattle.stability.proofs.Induction.{pair, EveryField, Steps, induction}
 
 -- ---- texts
 
@@ -200,6 +202,20 @@ fields-same g (field n d s fs) c a es =
 
 -- ---- unions
 
+-- a leaf strips nothing
+leaf-strip : (s : Schema) → T (childless s) → (v : Value) → strip s v ≡ v
+unfolding strip childless
+leaf-strip (Schema.Plain k) l v = refl
+leaf-strip (Schema.Fixed n) l v = refl
+leaf-strip (Schema.Decimal p s n) l v = refl
+leaf-strip (Schema.Uuid f) l v = refl
+leaf-strip (Schema.Duration n) l v = refl
+leaf-strip (Schema.Enum ss d) l v = refl
+leaf-strip (Schema.Array s) l v = absurd l
+leaf-strip (Schema.Map s) l v = absurd l
+leaf-strip (Schema.Record fs) l v = absurd l
+leaf-strip (Schema.Union vs ks ns) l v = absurd l
+
 -- a Null schema strips nothing
 pub null-strip : (a : Schema) → T (isNull a) → (v : Value) → strip a v ≡ v
 unfolding strip schemaKind
@@ -229,19 +245,6 @@ null-same (Schema.Record fs) h v =
     ap resolve-null (peel-change (λ vs. vs) (keepEntries (λ n w. stripField fs n w)) (keepEntries (λ n w. stripField fs n w)) v)
     ∙ null-change (λ vs. vs) (keepEntries (λ n w. stripField fs n w)) (keepEntries (λ n w. stripField fs n w)) (peel v)
 null-same (Schema.Union vs ks ns) h v = absurd h
-
-pub null-is : (a : Schema) → T (isNull a) → (v : Value) → resolve a v ≡ resolve-null (peel v)
-unfolding resolve resolvePlain schemaKind
-null-is (Schema.Plain k) h v = rw (is-true (eqb k Kind.Null) h)
-null-is (Schema.Fixed n) h v = absurd h
-null-is (Schema.Decimal p s n) h v = absurd h
-null-is (Schema.Uuid f) h v = absurd h
-null-is (Schema.Duration n) h v = absurd h
-null-is (Schema.Enum ss d) h v = absurd h
-null-is (Schema.Array s) h v = absurd h
-null-is (Schema.Map s) h v = absurd h
-null-is (Schema.Record fs) h v = absurd h
-null-is (Schema.Union vs ks ns) h v = absurd h
 
 unfoldable pub flat : Value → Bool
 flat (Value.Scalar k n) = true
@@ -334,12 +337,7 @@ pair-same a b ca cb ua ub ks h v = go (isNull a) refl h
 steps : Steps Same
 unfolding resolve strip
 steps = record {
-  plain = λ k v. refl;
-  fixed = λ n v. refl;
-  decimal = λ p s n v. refl;
-  uuid = λ f v. refl;
-  duration = λ n v. refl;
-  enum = λ ss d v. refl;
+  leaf = λ s l v. ap (resolve s) (leaf-strip s l v);
   array = λ s c v.
       ap (resolve-array (λ w. resolve s w)) (peel-change (mapItems (λ w. strip s w)) (λ es. es) (λ es. es) v)
       ∙ array-same (λ w. resolve s w) (λ w. strip s w) c (peel v);

@@ -23,9 +23,9 @@ use Rattle.hulmbax.proofs.Told.{ok-is, buffer-accepted}
 use Rattle.stability.specs.Claims.{Called, Suits, Fits, Repeat, standing, Repeated, AllGive, Repeats}
 use Rattle.frame.proofs.RoundTrip.{held, decode-encode}
 use Rattle.frame.proofs.ReadHeld.{decode-held, schema-held}
-use Rattle.types.proofs.HeldLeaves.{Kept}
+use Rattle.avro.proofs.Made.{Kept, Stable}
 use Rattle.avro.proofs.Held.{kept-resolve}
-use Rattle.stability.proofs.Settle.{Stable, settled}
+use Rattle.stability.proofs.Settle.{settled}
 
 -- an accepted call, and its result
 record AcceptedCall (schema value result : List ℕ) : Type 0 where
