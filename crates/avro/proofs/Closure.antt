@@ -1,7 +1,7 @@
 -- What holds of everything that resolution makes, shown once along the text of `resolve`: what is asked of a value passes to what it holds, a leaf makes what is
 -- claimed, and arrays, maps, records and unions of such are such.
 use Prim.Native.Nat.{ℕ, zero, suc}
-use mathlib.Core.Path.{_≡_, refl}
+use mathlib.Core.Path.{_≡_, refl, ap}
 use mathlib.Core.List.{List}
 use mathlib.Core.Option.{Option, none, some}
 use mathlib.Core.Bool.{_||_}
@@ -11,6 +11,7 @@ use Rattle.base.specs.Base.{after}
 use Rattle.text.specs.Text.{Text}
 use Rattle.frame.specs.Kind
 use Rattle.frame.specs.Tree.{Value, Values, Entries, Schema, Fields, Variants, noItems, item, noEntries, entry, noFields, field, noVariants, variant, kindOf, is, items, entries, peel, schemaKind}
+use Rattle.frame.specs.ValueFrame.{countItems}
 use Rattle.types.specs.Types.{Outcome}
 use Rattle.avro.specs.Union.{noTrial, find-schema-with-known-schemata, inUnion, resolve-union}
 use Rattle.avro.specs.Resolve.{eachItem, eachEntry, resolve-array, resolve-map, lastUnder, first, fieldValue, resolve-record, resolve, resolveFields, startDefault, trials}
@@ -28,11 +29,9 @@ AllEntries P noEntries = Unit
 AllEntries P (entry n v es) = P v × AllEntries P es
 
 -- one item for each
-abbrev pub ItemsMade : (Value → Type 0) → Values → Values → Type 0
-ItemsMade P noItems noItems = Unit
-ItemsMade P noItems (item r rs) = ⊥
-ItemsMade P (item v vs) noItems = ⊥
-ItemsMade P (item v vs) (item r rs) = P r × ItemsMade P vs rs
+pub record ItemsMade (P : Value → Type 0) (vs rs : Values) : Type 0 where
+  pub each : AllItems P rs
+  pub count : countItems rs ≡ countItems vs
 
 -- one entry for each, under its name
 abbrev pub EntriesMade : (Value → Type 0) → Entries → Entries → Type 0
@@ -58,9 +57,9 @@ AtVariant P (variant s vs) (suc i) r = AtVariant P vs i r
 
 module _ (P Q : Value → Type 0) (f : Value → Outcome) (c : (v : Value) → P v → Ends Q (f v)) where
   ends-items : (vs : Values) → AllItems P vs → Ends (ItemsMade Q vs) (eachItem f vs)
-  unfolding eachItem
-  ends-items noItems a = tt
-  ends-items (item v vs) a = ends-after Q _ (f v) _ (c v (a .0)) λ r q. ends-after (ItemsMade Q vs) _ (eachItem f vs) _ (ends-items vs (a .1)) λ rs p. (q, p)
+  unfolding eachItem countItems
+  ends-items noItems a = record { each = tt; count = refl }
+  ends-items (item v vs) a = ends-after Q _ (f v) _ (c v (a .0)) λ r q. ends-after (ItemsMade Q vs) _ (eachItem f vs) _ (ends-items vs (a .1)) λ rs p. record { each = (q, p .each); count = ap suc (p .count) }
 
   ends-entries : (es : Entries) → AllEntries P es → Ends (EntriesMade Q es) (eachEntry f es)
   unfolding eachEntry

@@ -38,11 +38,6 @@ use Rattle.avro.specs.Numbers.{listed}
 use Rattle.avro.proofs.Ends.{Ends, ends-if, ends-after, ends-map}
 use Rattle.avro.proofs.SchemaCases.{childless}
 
--- a frame can hold it at depth d, and its map keys rise
-pub record Kept (d : ℕ) (r : Value) : Type 0 where
-  pub holds : T (held r d)
-  pub keys : T (keysRise r)
-
 -- it fits the schema, and resolves to itself
 pub record Stable (s : Schema) (r : Value) : Type 0 where
   pub fitting : T (fits s r)
@@ -52,10 +47,14 @@ pub record Stable (s : Schema) (r : Value) : Type 0 where
 abbrev pub unmeasured : Schema → Value → Bool
 unmeasured s v = (eqb (schemaKind s) Kind.Fixed || eqb (schemaKind s) Kind.Decimal) && is Kind.String v
 
--- what the leaf s makes of v
+-- what the leaf s makes of v, which is peeled
 pub record Made (s : Schema) (v r : Value) : Type 0 where
+  -- fits and repeats
   pub stable : T (not (unmeasured s v)) → Stable s r
-  pub kept : (d : ℕ) → HeldSchema s (suc d) → (e : ℕ) → T (held v e) → Kept (suc d) r
+  -- stands in a frame, where schema and value do
+  pub holds : (d : ℕ) → HeldSchema s (suc d) → (e : ℕ) → T (held v e) → T (held r (suc d))
+  -- its map keys rise
+  pub keys : T (keysRise r)
 
 -- ---- kinds
 
@@ -103,22 +102,23 @@ unfolding held
 held-octets k b zero h = absurd h
 held-octets k b (suc e) h = h
 
-scalar-kept : (d k n : ℕ) → T (scalarHeld (kindContent k) n) → Kept (suc d) (Value.Scalar k n)
-unfolding held keysRise
-scalar-kept d k n h = record { holds = h; keys = tt }
-
-octets-kept : (d k : ℕ) (b : List ℕ) → T (octetsHeld (kindContent k) b) → Kept (suc d) (Value.Octets k b)
-unfolding held keysRise
-octets-kept d k b h = record { holds = h; keys = tt }
+leaf-keys : (k : ℕ) → T (leafKind k) → (v : Value) → T (is k v) → T (keysRise v)
+unfolding keysRise
+leaf-keys k l v t = go (leaf-is k l v t)
+  where
+    go : Leaf k v → T (keysRise v)
+    go (scalar n q) = rw q tt
+    go (bytes b q) = rw q tt
 
 module _ (k : ℕ) (l : T (leafKind k)) (v : Value) (e : ℕ) (h : T (held v e)) (t : T (is k v)) where
   -- a leaf is held at any depth
-  leaf-kept : (d : ℕ) → Kept (suc d) v
-  leaf-kept d = go (leaf-is k l v t)
+  leaf-held : (d : ℕ) → T (held v (suc d))
+  unfolding held
+  leaf-held d = go (leaf-is k l v t)
     where
-      go : Leaf k v → Kept (suc d) v
-      go (scalar n q) = rw q (scalar-kept d k n (held-scalar k n e (rw q at h)))
-      go (bytes b q) = rw q (octets-kept d k b (held-octets k b e (rw q at h)))
+      go : Leaf k v → T (held v (suc d))
+      go (scalar n q) = rw q (held-scalar k n e (rw q at h))
+      go (bytes b q) = rw q (held-octets k b e (rw q at h))
 
   number-of : (w : ℕ) → kindContent k ≡ wide w → number v < 256 ^ w
   unfolding scalarHeld octetsHeld number
@@ -146,7 +146,8 @@ or-cases false b X t f g = g t
 as-it-was : (k : ℕ) → T (leafKind k) → (s : Schema) (v : Value) → T (is k v) → (T (is k v) → T (fits s v)) → (peel v ≡ v → resolve s v ≡ ok v) → Made s v v
 as-it-was k l s v t f q = record {
   stable = λ _. record { fitting = f t; again = q (peel-kind v (rw (kind-is k v t) (not-union k l))) };
-  kept = λ d g e h. leaf-kept k l v e h t d;
+  holds = λ d g e h. leaf-held k l v e h t d;
+  keys = leaf-keys k l v t;
 }
   where
     not-union : (k : ℕ) → T (leafKind k) → T (not (eqb k Kind.Union))
@@ -155,16 +156,18 @@ as-it-was k l s v t f q = record {
 -- a number of kind k
 a-number : (k n : ℕ) (v : Value) → resolvePlain k (Value.Scalar k n) ≡ ok (Value.Scalar k n) → (T (bare k) → (e : ℕ) → T (held v e) → T (scalarHeld (kindContent k) n))
     → Made (Schema.Plain k) v (Value.Scalar k n)
-unfolding fits resolve kindOf peel
+unfolding fits resolve kindOf peel held keysRise
 a-number k n v q b = record {
   stable = λ _. record { fitting = eqb-refl k; again = q };
-  kept = λ d g e h. scalar-kept d k n (b g e h);
+  holds = λ d g e h. b g e h;
+  keys = tt;
 }
 
 -- octets of kind k
 some-octets : (k : ℕ) (b : List ℕ) (s : Schema) (v : Value) → (T (not (unmeasured s v)) → Stable s (Value.Octets k b)) → ((e : ℕ) → T (held v e) → T (octetsHeld (kindContent k) b))
     → Made s v (Value.Octets k b)
-some-octets k b s v q h = record { stable = q; kept = λ d g e p. octets-kept d k b (h e p) }
+unfolding held keysRise
+some-octets k b s v q h = record { stable = q; holds = λ d g e p. h e p; keys = tt }
 
 -- the same under a schema without content
 plain-as-it-was : (k : ℕ) → T (leafKind k) → (v : Value) → T (is k v) → resolvePlain k v ≡ ok v → Made (Schema.Plain k) v v
@@ -529,10 +532,8 @@ module _ (ss : List Text) (d : Option Text) (v : Value) where
   made-symbol s t none q p = tt
   made-symbol s t (some i) q p = record {
     stable = λ _. record { fitting = p; again = rw q };
-    kept = λ f g e h. record {
-      holds = and-i (ltb i (256 ^ 4)) (textHeld s) (lt→ltb i (256 ^ 4) (omega (arith, symbol-at ss i s p .0, ltb→lt (length ss) 65536 (g .1)))) (t (g .2) e h);
-      keys = tt;
-    };
+    holds = λ f g e h. and-i (ltb i (256 ^ 4)) (textHeld s) (lt→ltb i (256 ^ 4) (omega (arith, symbol-at ss i s p .0, ltb→lt (length ss) 65536 (g .1)))) (t (g .2) e h);
+    keys = tt;
   }
 
   made-or-default : (o : Outcome) → Ends (Made (Schema.Enum ss d) v) o → (c : Option Text) → d ≡ c → Ends (Made (Schema.Enum ss d) v) (orDefault ss c o)

@@ -11,6 +11,10 @@ use lib.Ieee.Bits.{is-false}
 use Rattle.base.specs.Base.{if_then_else_}
 use Rattle.avro.specs.Union.{Trial, byTable, byName, positionOf, byTrials, route, firstThatResolves, choose, findRoute, find-schema-with-known-schemata}
 
+pub route-equal : (ts : List Trial) (n : ℕ) → route ts (some n) (some n) ≡ byName n
+unfolding route
+route-equal ts n = rw (is-false (ltb n n) (le→nltb n n (omega arith)))
+
 trials-position : (o : Option ℕ) → positionOf (byTrials o) ≡ o
 unfolding positionOf byTrials
 trials-position none = refl
@@ -30,7 +34,3 @@ route-position ts (some u) (some n) = go (ltb u n)
 pub findRoute-position : (ts : List Trial) (ks : List (ℕ × ℕ)) (ns : List ℕ) (k : ℕ) → positionOf (findRoute ts ks ns k) ≡ find-schema-with-known-schemata ts ks ns k
 unfolding findRoute find-schema-with-known-schemata
 findRoute-position ts ks ns k = route-position ts _ _
-
-pub route-equal : (ts : List Trial) (n : ℕ) → route ts (some n) (some n) ≡ byName n
-unfolding route
-route-equal ts n = rw (is-false (ltb n n) (le→nltb n n (omega arith)))

@@ -69,13 +69,11 @@ entries-in s f (entry n v es) h =
     let rest : Bool = allEntries (λ w. noStringMeets s w) es in
     (record { fine = f; meets = and-l (noStringMeets s v) rest h }, entries-in s f es (and-r (noStringMeets s v) rest h))
 
-items-out : (s : Schema) (vs rs : Values) → ItemsMade (Stable s) vs rs → T (allItems (λ w. fits s w) rs) × (eachItem (λ w. resolve s w) rs ≡ ok rs)
+items-out : (s : Schema) (rs : Values) → AllItems (Stable s) rs → T (allItems (λ w. fits s w) rs) × (eachItem (λ w. resolve s w) rs ≡ ok rs)
 unfolding allItems eachItem after
-items-out s noItems noItems m = (tt, refl)
-items-out s noItems (item r rs) m = absurd m
-items-out s (item v vs) noItems m = absurd m
-items-out s (item v vs) (item r rs) m =
-    let q : T (allItems (λ w. fits s w) rs) × (eachItem (λ w. resolve s w) rs ≡ ok rs) = items-out s vs rs (m .1) in
+items-out s noItems m = (tt, refl)
+items-out s (item r rs) m =
+    let q : T (allItems (λ w. fits s w) rs) × (eachItem (λ w. resolve s w) rs ≡ ok rs) = items-out s rs (m .1) in
     (and-i (fits s r) (allItems (λ w. fits s w) rs) (m .0 .fitting) (q .0), rw (m .0 .again, q .1))
 
 entries-out : (s : Schema) (es rs : Entries) → EntriesMade (Stable s) es rs → T (allEntries (λ w. fits s w) rs) × (eachEntry (λ w. resolve s w) rs ≡ ok rs)
@@ -101,7 +99,7 @@ array-in s v p = items-in s (fine-array s (p .fine)) (items (peel v)) (and-r (no
 
 array-out : (s : Schema) (vs rs : Values) → ItemsMade (Stable s) vs rs → Stable (Schema.Array s) (Value.Array rs)
 unfolding resolve resolve-array fits kindOf peel items after
-array-out s vs rs m = let q = items-out s vs rs m in record { fitting = q .0; again = rw (q .1) }
+array-out s vs rs m = let q = items-out s rs (m .each) in record { fitting = q .0; again = rw (q .1) }
 
 map-in : (s : Schema) (v : Value) → In (Schema.Map s) v → T (is Kind.Map (peel v)) → AllEntries (In s) (entries (peel v))
 unfolding noStringMeets meetings
