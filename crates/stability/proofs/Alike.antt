@@ -25,7 +25,7 @@ use Rattle.hulmbax.specs.Entry.{resolvedOf}
 use Rattle.hulmbax.specs.declared.Resolved.{Resolved}
 use Rattle.frame.proofs.SoundLaws.{sound-field}
 use Rattle.avro.specs.Pairs.{nullablePair, nullablePairs, isNull, onlyNullLeadsTo}
-use Rattle.avro.proofs.SchemaCases.{childless, pair, EveryField, Steps, induction}
+use Rattle.avro.proofs.SchemaCases.{childless, NotUnion, EveryField, every, pair, Steps, induction}
 use Rattle.avro.proofs.PairChoice.{null-is}
 use Rattle.stability.specs.Stability.{underUnion, change, mapItems, mapEntries, hasName, keepEntry, keepEntries, strip, stripField}
 use Rattle.stability.specs.Claims.{AreAlike, Alike}
@@ -59,6 +59,9 @@ null-change f g h (Value.Array vs) = refl
 null-change f g h (Value.Map es) = refl
 null-change f g h (Value.Record es) = refl
 null-change f g h (Value.Union i v) = refl
+
+null-changed : (f : Values → Values) (g h : Entries → Entries) (v : Value) → resolve-null (peel (underUnion (change f g h) v)) ≡ resolve-null (peel v)
+null-changed f g h v = ap resolve-null (peel-change f g h v) ∙ null-change f g h (peel v)
 
 items-same : (r : Value → Outcome) (f : Value → Value) → ((v : Value) → r (f v) ≡ r v) → (vs : Values) → eachItem r (mapItems f vs) ≡ eachItem r vs
 unfolding eachItem mapItems
@@ -219,32 +222,24 @@ leaf-strip (Schema.Union vs ks ns) l v = absurd l
 -- a Null schema strips nothing
 pub null-strip : (a : Schema) → T (isNull a) → (v : Value) → strip a v ≡ v
 unfolding strip schemaKind
-null-strip (Schema.Plain k) h v = refl
-null-strip (Schema.Fixed n) h v = absurd h
-null-strip (Schema.Decimal p s n) h v = absurd h
-null-strip (Schema.Uuid f) h v = absurd h
-null-strip (Schema.Duration n) h v = absurd h
-null-strip (Schema.Enum ss d) h v = absurd h
-null-strip (Schema.Array s) h v = absurd h
-null-strip (Schema.Map s) h v = absurd h
-null-strip (Schema.Record fs) h v = absurd h
-null-strip (Schema.Union vs ks ns) h v = absurd h
+null-strip = every (λ a. T (isNull a) → (v : Value) → strip a v ≡ v) (record {
+  leaf = λ s l h. leaf-strip s l;
+  array = λ s _ h. absurd h;
+  map = λ s _ h. absurd h;
+  fields = λ fs _ h. absurd h;
+  union = λ vs ks ns _ h. absurd h;
+})
 
 -- what a schema that is no union strips, Null doesn't see
-null-same : (b : Schema) → T (not (eqb (schemaKind b) Kind.Union)) → (v : Value) → resolve-null (peel (strip b v)) ≡ resolve-null (peel v)
+null-same : (b : Schema) → NotUnion b → (v : Value) → resolve-null (peel (strip b v)) ≡ resolve-null (peel v)
 unfolding strip schemaKind
-null-same (Schema.Plain k) h v = refl
-null-same (Schema.Fixed n) h v = refl
-null-same (Schema.Decimal p s n) h v = refl
-null-same (Schema.Uuid f) h v = refl
-null-same (Schema.Duration n) h v = refl
-null-same (Schema.Enum ss d) h v = refl
-null-same (Schema.Array s) h v = ap resolve-null (peel-change (mapItems (λ w. strip s w)) (λ es. es) (λ es. es) v) ∙ null-change (mapItems (λ w. strip s w)) (λ es. es) (λ es. es) (peel v)
-null-same (Schema.Map s) h v = ap resolve-null (peel-change (λ vs. vs) (mapEntries (λ w. strip s w)) (λ es. es) v) ∙ null-change (λ vs. vs) (mapEntries (λ w. strip s w)) (λ es. es) (peel v)
-null-same (Schema.Record fs) h v =
-    ap resolve-null (peel-change (λ vs. vs) (keepEntries (λ n w. stripField fs n w)) (keepEntries (λ n w. stripField fs n w)) v)
-    ∙ null-change (λ vs. vs) (keepEntries (λ n w. stripField fs n w)) (keepEntries (λ n w. stripField fs n w)) (peel v)
-null-same (Schema.Union vs ks ns) h v = absurd h
+null-same = every (λ b. NotUnion b → (v : Value) → resolve-null (peel (strip b v)) ≡ resolve-null (peel v)) (record {
+  leaf = λ s l h v. ap (λ (w : Value). resolve-null (peel w)) (leaf-strip s l v);
+  array = λ s _ h v. null-changed (mapItems (λ w. strip s w)) (λ es. es) (λ es. es) v;
+  map = λ s _ h v. null-changed (λ vs. vs) (mapEntries (λ w. strip s w)) (λ es. es) v;
+  fields = λ fs _ h v. null-changed (λ vs. vs) (keepEntries (λ n w. stripField fs n w)) (keepEntries (λ n w. stripField fs n w)) v;
+  union = λ vs ks ns _ h v. absurd h;
+})
 
 unfoldable pub flat : Value → Bool
 flat (Value.Scalar k n) = true
@@ -286,18 +281,15 @@ kind-change f g h (Value.Record es) = refl
 kind-change f g h (Value.Union i v) = refl
 
 -- stripping keeps the kind, and makes no Union of what is none
-keeps-shape : (b : Schema) → T (not (eqb (schemaKind b) Kind.Union)) → (v : Value) → (kindOf (strip b v) ≡ kindOf v) × (flat (strip b v) ≡ flat v)
+keeps-shape : (b : Schema) → NotUnion b → (v : Value) → (kindOf (strip b v) ≡ kindOf v) × (flat (strip b v) ≡ flat v)
 unfolding strip schemaKind
-keeps-shape (Schema.Plain k) h v = (refl, refl)
-keeps-shape (Schema.Fixed n) h v = (refl, refl)
-keeps-shape (Schema.Decimal p s n) h v = (refl, refl)
-keeps-shape (Schema.Uuid f) h v = (refl, refl)
-keeps-shape (Schema.Duration n) h v = (refl, refl)
-keeps-shape (Schema.Enum ss d) h v = (refl, refl)
-keeps-shape (Schema.Array s) h v = (kind-change _ _ _ v, flat-change _ _ _ v)
-keeps-shape (Schema.Map s) h v = (kind-change _ _ _ v, flat-change _ _ _ v)
-keeps-shape (Schema.Record fs) h v = (kind-change _ _ _ v, flat-change _ _ _ v)
-keeps-shape (Schema.Union vs ks ns) h v = absurd h
+keeps-shape = every (λ b. NotUnion b → (v : Value) → (kindOf (strip b v) ≡ kindOf v) × (flat (strip b v) ≡ flat v)) (record {
+  leaf = λ s l h v. (ap kindOf (leaf-strip s l v), ap flat (leaf-strip s l v));
+  array = λ s _ h v. (kind-change _ _ _ v, flat-change _ _ _ v);
+  map = λ s _ h v. (kind-change _ _ _ v, flat-change _ _ _ v);
+  fields = λ fs _ h v. (kind-change _ _ _ v, flat-change _ _ _ v);
+  union = λ vs ks ns _ h v. absurd h;
+})
 
 peel-under : (f : Value → Value) → ((v : Value) → flat (f v) ≡ flat v) → (v : Value) → peel (underUnion f v) ≡ f (peel v)
 unfolding peel underUnion flat
