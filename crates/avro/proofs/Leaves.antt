@@ -8,7 +8,6 @@ use borrow.Author.Tests.{eq-eqb, ne-eqb, lt-ltb, le-ltb, lt-leb}
 use lib.ListN.{length}
 use Rattle.base.specs.Base.{ok, stop, after}
 use Rattle.text.specs.Text.{Text}
-use Rattle.utf8.specs.Utf8.{isUtf8}
 use Rattle.decimal.specs.Decimal.{tooShortFor}
 use Rattle.uuid.specs.Uuid.{uuidOfText}
 use Rattle.scalar.specs.Conversion.{inInt, intOfLong}

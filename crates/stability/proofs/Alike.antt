@@ -16,7 +16,7 @@ use Rattle.frame.specs.Tree.{Value, Values, Entries, Schema, Fields, noItems, i
 use Rattle.frame.specs.ValueFrame.{encodeValue}
 use Rattle.frame.specs.SchemaFrame.{decodeSchema}
 use Rattle.frame.specs.Sound.{keysRise, schemaSound, fieldsSound, hasField}
-use Rattle.types.specs.Types.{Outcome, resolvePlain, resolve-null}
+use Rattle.types.specs.Types.{Outcome, resolve-null}
 use Rattle.avro.specs.Union.{Trial, resolve-union}
 use Rattle.avro.specs.Resolve.{resolve, resolveFields, startDefault, trials, resolve-array, resolve-map, resolve-record, eachItem, eachEntry, fieldValue, lastUnder}
 use Rattle.avro.specs.Defaults.{defaultsShort}
@@ -24,9 +24,11 @@ use Rattle.hulmbax.specs.Answer.{answer, recordAnswer, checkedSchema, checkedVa
 use Rattle.hulmbax.specs.Entry.{resolvedOf}
 use Rattle.hulmbax.specs.declared.Resolved.{Resolved}
 use Rattle.frame.proofs.SoundLaws.{sound-field}
-use Rattle.stability.specs.Stability.{nullablePair, nullablePairs, isNull, onlyNullLeadsTo, underUnion, change, mapItems, mapEntries, hasName, keepEntry, keepEntries, strip, stripField}
+use Rattle.avro.specs.Pairs.{nullablePair, nullablePairs, isNull, onlyNullLeadsTo}
+use Rattle.avro.proofs.SchemaCases.{childless, NotUnion, EveryField, every, pair, Steps, induction}
+use Rattle.avro.proofs.PairChoice.{null-is}
+use Rattle.stability.specs.Stability.{underUnion, change, mapItems, mapEntries, hasName, keepEntry, keepEntries, strip, stripField}
 use Rattle.stability.specs.Claims.{AreAlike, Alike}
-use Rattle.stability.proofs.Induction.{pair, EveryField, Steps, induction}
 
 -- ---- texts
 
@@ -57,6 +59,9 @@ null-change f g h (Value.Array vs) = refl
 null-change f g h (Value.Map es) = refl
 null-change f g h (Value.Record es) = refl
 null-change f g h (Value.Union i v) = refl
+
+null-changed : (f : Values → Values) (g h : Entries → Entries) (v : Value) → resolve-null (peel (underUnion (change f g h) v)) ≡ resolve-null (peel v)
+null-changed f g h v = ap resolve-null (peel-change f g h v) ∙ null-change f g h (peel v)
 
 items-same : (r : Value → Outcome) (f : Value → Value) → ((v : Value) → r (f v) ≡ r v) → (vs : Values) → eachItem r (mapItems f vs) ≡ eachItem r vs
 unfolding eachItem mapItems
@@ -200,48 +205,41 @@ fields-same g (field n d s fs) c a es =
 
 -- ---- unions
 
+-- a leaf strips nothing
+leaf-strip : (s : Schema) → T (childless s) → (v : Value) → strip s v ≡ v
+unfolding strip childless
+leaf-strip (Schema.Plain k) l v = refl
+leaf-strip (Schema.Fixed n) l v = refl
+leaf-strip (Schema.Decimal p s n) l v = refl
+leaf-strip (Schema.Uuid f) l v = refl
+leaf-strip (Schema.Duration n) l v = refl
+leaf-strip (Schema.Enum ss d) l v = refl
+leaf-strip (Schema.Array s) l v = absurd l
+leaf-strip (Schema.Map s) l v = absurd l
+leaf-strip (Schema.Record fs) l v = absurd l
+leaf-strip (Schema.Union vs ks ns) l v = absurd l
+
 -- a Null schema strips nothing
 pub null-strip : (a : Schema) → T (isNull a) → (v : Value) → strip a v ≡ v
 unfolding strip schemaKind
-null-strip (Schema.Plain k) h v = refl
-null-strip (Schema.Fixed n) h v = absurd h
-null-strip (Schema.Decimal p s n) h v = absurd h
-null-strip (Schema.Uuid f) h v = absurd h
-null-strip (Schema.Duration n) h v = absurd h
-null-strip (Schema.Enum ss d) h v = absurd h
-null-strip (Schema.Array s) h v = absurd h
-null-strip (Schema.Map s) h v = absurd h
-null-strip (Schema.Record fs) h v = absurd h
-null-strip (Schema.Union vs ks ns) h v = absurd h
+null-strip = every (λ a. T (isNull a) → (v : Value) → strip a v ≡ v) (record {
+  leaf = λ s l h. leaf-strip s l;
+  array = λ s _ h. absurd h;
+  map = λ s _ h. absurd h;
+  fields = λ fs _ h. absurd h;
+  union = λ vs ks ns _ h. absurd h;
+})
 
 -- what a schema that is no union strips, Null doesn't see
-null-same : (b : Schema) → T (not (eqb (schemaKind b) Kind.Union)) → (v : Value) → resolve-null (peel (strip b v)) ≡ resolve-null (peel v)
+null-same : (b : Schema) → NotUnion b → (v : Value) → resolve-null (peel (strip b v)) ≡ resolve-null (peel v)
 unfolding strip schemaKind
-null-same (Schema.Plain k) h v = refl
-null-same (Schema.Fixed n) h v = refl
-null-same (Schema.Decimal p s n) h v = refl
-null-same (Schema.Uuid f) h v = refl
-null-same (Schema.Duration n) h v = refl
-null-same (Schema.Enum ss d) h v = refl
-null-same (Schema.Array s) h v = ap resolve-null (peel-change (mapItems (λ w. strip s w)) (λ es. es) (λ es. es) v) ∙ null-change (mapItems (λ w. strip s w)) (λ es. es) (λ es. es) (peel v)
-null-same (Schema.Map s) h v = ap resolve-null (peel-change (λ vs. vs) (mapEntries (λ w. strip s w)) (λ es. es) v) ∙ null-change (λ vs. vs) (mapEntries (λ w. strip s w)) (λ es. es) (peel v)
-null-same (Schema.Record fs) h v =
-    ap resolve-null (peel-change (λ vs. vs) (keepEntries (λ n w. stripField fs n w)) (keepEntries (λ n w. stripField fs n w)) v)
-    ∙ null-change (λ vs. vs) (keepEntries (λ n w. stripField fs n w)) (keepEntries (λ n w. stripField fs n w)) (peel v)
-null-same (Schema.Union vs ks ns) h v = absurd h
-
-pub null-is : (a : Schema) → T (isNull a) → (v : Value) → resolve a v ≡ resolve-null (peel v)
-unfolding resolve resolvePlain schemaKind
-null-is (Schema.Plain k) h v = rw (is-true (eqb k Kind.Null) h)
-null-is (Schema.Fixed n) h v = absurd h
-null-is (Schema.Decimal p s n) h v = absurd h
-null-is (Schema.Uuid f) h v = absurd h
-null-is (Schema.Duration n) h v = absurd h
-null-is (Schema.Enum ss d) h v = absurd h
-null-is (Schema.Array s) h v = absurd h
-null-is (Schema.Map s) h v = absurd h
-null-is (Schema.Record fs) h v = absurd h
-null-is (Schema.Union vs ks ns) h v = absurd h
+null-same = every (λ b. NotUnion b → (v : Value) → resolve-null (peel (strip b v)) ≡ resolve-null (peel v)) (record {
+  leaf = λ s l h v. ap (λ (w : Value). resolve-null (peel w)) (leaf-strip s l v);
+  array = λ s _ h v. null-changed (mapItems (λ w. strip s w)) (λ es. es) (λ es. es) v;
+  map = λ s _ h v. null-changed (λ vs. vs) (mapEntries (λ w. strip s w)) (λ es. es) v;
+  fields = λ fs _ h v. null-changed (λ vs. vs) (keepEntries (λ n w. stripField fs n w)) (keepEntries (λ n w. stripField fs n w)) v;
+  union = λ vs ks ns _ h v. absurd h;
+})
 
 unfoldable pub flat : Value → Bool
 flat (Value.Scalar k n) = true
@@ -283,18 +281,15 @@ kind-change f g h (Value.Record es) = refl
 kind-change f g h (Value.Union i v) = refl
 
 -- stripping keeps the kind, and makes no Union of what is none
-keeps-shape : (b : Schema) → T (not (eqb (schemaKind b) Kind.Union)) → (v : Value) → (kindOf (strip b v) ≡ kindOf v) × (flat (strip b v) ≡ flat v)
+keeps-shape : (b : Schema) → NotUnion b → (v : Value) → (kindOf (strip b v) ≡ kindOf v) × (flat (strip b v) ≡ flat v)
 unfolding strip schemaKind
-keeps-shape (Schema.Plain k) h v = (refl, refl)
-keeps-shape (Schema.Fixed n) h v = (refl, refl)
-keeps-shape (Schema.Decimal p s n) h v = (refl, refl)
-keeps-shape (Schema.Uuid f) h v = (refl, refl)
-keeps-shape (Schema.Duration n) h v = (refl, refl)
-keeps-shape (Schema.Enum ss d) h v = (refl, refl)
-keeps-shape (Schema.Array s) h v = (kind-change _ _ _ v, flat-change _ _ _ v)
-keeps-shape (Schema.Map s) h v = (kind-change _ _ _ v, flat-change _ _ _ v)
-keeps-shape (Schema.Record fs) h v = (kind-change _ _ _ v, flat-change _ _ _ v)
-keeps-shape (Schema.Union vs ks ns) h v = absurd h
+keeps-shape = every (λ b. NotUnion b → (v : Value) → (kindOf (strip b v) ≡ kindOf v) × (flat (strip b v) ≡ flat v)) (record {
+  leaf = λ s l h v. (ap kindOf (leaf-strip s l v), ap flat (leaf-strip s l v));
+  array = λ s _ h v. (kind-change _ _ _ v, flat-change _ _ _ v);
+  map = λ s _ h v. (kind-change _ _ _ v, flat-change _ _ _ v);
+  fields = λ fs _ h v. (kind-change _ _ _ v, flat-change _ _ _ v);
+  union = λ vs ks ns _ h v. absurd h;
+})
 
 peel-under : (f : Value → Value) → ((v : Value) → flat (f v) ≡ flat v) → (v : Value) → peel (underUnion f v) ≡ f (peel v)
 unfolding peel underUnion flat
@@ -334,12 +329,7 @@ pair-same a b ca cb ua ub ks h v = go (isNull a) refl h
 steps : Steps Same
 unfolding resolve strip
 steps = record {
-  plain = λ k v. refl;
-  fixed = λ n v. refl;
-  decimal = λ p s n v. refl;
-  uuid = λ f v. refl;
-  duration = λ n v. refl;
-  enum = λ ss d v. refl;
+  leaf = λ s l v. ap (resolve s) (leaf-strip s l v);
   array = λ s c v.
       ap (resolve-array (λ w. resolve s w)) (peel-change (mapItems (λ w. strip s w)) (λ es. es) (λ es. es) v)
       ∙ array-same (λ w. resolve s w) (λ w. strip s w) c (peel v);

@@ -23,9 +23,10 @@ use Rattle.hulmbax.proofs.Told.{ok-is, buffer-accepted}
 use Rattle.stability.specs.Claims.{Called, Suits, Fits, Repeat, standing, Repeated, AllGive, Repeats}
 use Rattle.frame.proofs.RoundTrip.{held, decode-encode}
 use Rattle.frame.proofs.ReadHeld.{decode-held, schema-held}
-use Rattle.types.proofs.HeldLeaves.{Kept}
-use Rattle.avro.proofs.Held.{kept-resolve}
-use Rattle.stability.proofs.Settle.{Stable, settled}
+use Rattle.avro.proofs.Made.{Stable}
+use Rattle.avro.proofs.Held.{held-resolve}
+use Rattle.avro.proofs.Keys.{keys-resolve}
+use Rattle.stability.proofs.Settle.{settled}
 
 -- an accepted call, and its result
 record AcceptedCall (schema value result : List ℕ) : Type 0 where
@@ -104,13 +105,14 @@ result-tree : {schema value result : List ℕ} (a : AcceptedCall schema value re
 result-tree {schema} {value} {result} a =
     let m : Made (a .suits .tree) (a .suits .input) result = made-of a in
     let r : Value = m .outcome in
-    let k : Kept 16 r = okay-is (Kept 16) (resolve (a .suits .tree) (a .suits .input)) r
-    (kept-resolve (a .suits .tree) 16 (schema-held schema (a .suits .tree) (a .schema-bytes) (a .suits .schema-is)) (m .sound) (a .suits .input) 16
-    (decode-held value (a .suits .input) (a .value-bytes) (a .suits .value-is)) (m .keys)) (m .resolved) in (
+    let h : T (held r 16) = okay-is (λ r. T (held r 16)) (resolve (a .suits .tree) (a .suits .input)) r
+    (held-resolve (a .suits .tree) 16 (schema-held schema (a .suits .tree) (a .schema-bytes) (a .suits .schema-is)) (a .suits .input) 16
+    (decode-held value (a .suits .input) (a .value-bytes) (a .suits .value-is))) (m .resolved) in
+    let k : T (keysRise r) = okay-is (λ r. T (keysRise r)) (resolve (a .suits .tree) (a .suits .input)) r (keys-resolve (a .suits .tree) (m .sound) (a .suits .input) (m .keys)) (m .resolved) in (
       r,
-      frame-back r result (m .bytes) (m .size) (k .holds),
+      frame-back r result (m .bytes) (m .size) h,
       settled (a .suits .tree) (m .sound) (a .suits .pairs) (a .suits .input) r (a .suits .no-string) (m .resolved),
-      k .keys,
+      k,
       sym (m .bytes),
     )
 

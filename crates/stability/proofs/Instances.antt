@@ -18,7 +18,8 @@ use Rattle.hulmbax.specs.declared.Resolved.{Resolved}
 use Rattle.hulmbax.specs.declared.Resolved.the-variants.{Accepted}
 use Rattle.hulmbax.proofs.Computed.{computed}
 use Rattle.stability.specs.Stability
-use Rattle.stability.specs.Stability.{fits}
+use Rattle.avro.specs.Matches.{fits}
+use Rattle.avro.specs.Pairs
 use Rattle.stability.specs.Claims.{Called, Suits, Fits, Repeat, standing, Repeated, AllGive, Repeats, AreAlike, Alike}
 use Rattle.stability.proofs.Claims.{fitting, repeating}
 use Rattle.stability.proofs.Alike.{alike}
@@ -57,7 +58,7 @@ abbrev buffer : List ℕ
 buffer = hex "0102030405060708090a0b0c0d0e"
 
 pub double-suits : Suits double five
-unfolding computed Stability.nullablePairs Stability.nullablePair Stability.onlyNullLeadsTo Stability.noStringMeets Stability.notStringIntoBytes Stability.meetings
+unfolding computed Pairs.nullablePairs Pairs.nullablePair Pairs.onlyNullLeadsTo Stability.noStringMeets Stability.notStringIntoBytes Stability.meetings
 double-suits = record {
   tree = Schema.Union (variant (Schema.Plain Kind.Null) (variant (Schema.Plain Kind.Double) noVariants)) ((0, 0) ∷ (5, 1) ∷ []) [];
   input = Value.Scalar Kind.Int 5;
@@ -133,5 +134,5 @@ further-called = called one further small without tt tt refl
 pub further-alike : (buffer workspace buffer₁ workspace₁ buffer₂ workspace₂ : List ℕ) (r₁ r₂ : Resolved)
     → Called one without buffer buffer₁ workspace workspace₁ r₁ → Called one further buffer buffer₂ workspace workspace₂ r₂
     → (r₁ ≡ r₂) × (buffer₁ ≡ buffer₂) × (workspace₁ ≡ workspace₂)
-unfolding Alike computed Stability.nullablePairs
+unfolding Alike computed Pairs.nullablePairs
 further-alike = alike one oneTree refl tt without further one-alike

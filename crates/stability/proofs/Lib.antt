@@ -1,10 +1,7 @@
-pub mod Induction
 pub mod Alike
 pub mod Settle
 pub mod Claims
-pub mod Matching
 pub mod Instances
 pub mod Meeting
-pub mod Pairs
 pub mod Stripping
 pub mod Sentences

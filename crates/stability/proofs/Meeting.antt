@@ -12,9 +12,10 @@ use Rattle.text.specs.Text.{Text}
 use Rattle.frame.specs.Kind
 use Rattle.frame.specs.Tree.{Value, Values, Entries, Schema, Fields, Variants, noItems, item, noEntries, entry, noFields, field, noVariants, variant, is, items, entries, peel, schemaKind}
 use Rattle.avro.specs.Resolve.{lastUnder}
-use Rattle.stability.specs.Matches.{allItems, allEntries}
-use Rattle.stability.specs.Stability.{isNull, fieldMeeting, meetings, fieldMeetings, variantMeetings, firstMeeting, firstVariantMeeting}
-use Rattle.stability.proofs.Induction.{NotUnion}
+use Rattle.avro.specs.Matches.{allItems, allEntries}
+use Rattle.avro.specs.Pairs.{isNull}
+use Rattle.avro.proofs.SchemaCases.{single, NotUnion}
+use Rattle.stability.specs.Stability.{fieldMeeting, meetings, fieldMeetings, variantMeetings, firstMeeting, firstVariantMeeting}
 
 -- ---- parts
 
@@ -33,19 +34,6 @@ pub data Variant (s : Schema) : Variants → Type 0 where
 pub data FieldOf (n : Text) (d : Option Value) (s : Schema) : Fields → Type 0 where
   this-field : {fs : Fields} → FieldOf n d s (field n d s fs)
   later-field : {m : Text} {e : Option Value} {t : Schema} {fs : Fields} → FieldOf n d s fs → FieldOf n d s (field m e t fs)
-
--- a schema that is no union
-unfoldable pub single : Schema → Bool
-single (Schema.Plain k) = true
-single (Schema.Fixed n) = true
-single (Schema.Decimal p s n) = true
-single (Schema.Uuid f) = true
-single (Schema.Duration n) = true
-single (Schema.Enum ss d) = true
-single (Schema.Array s) = true
-single (Schema.Map s) = true
-single (Schema.Record fs) = true
-single (Schema.Union vs ks ns) = false
 
 -- a Record or a Map
 abbrev pub named : Value → Bool
@@ -105,7 +93,7 @@ holds-then false c h k = absurd h
 module _ (P : ℕ → Value → Bool) where
   -- ---- P holds of all that meet
 
-  at-roots : (s : Schema) (v : Value) → T (single s) → T (meetings P s v) → T (P (schemaKind s) (peel v))
+  pub at-roots : (s : Schema) (v : Value) → T (single s) → T (meetings P s v) → T (P (schemaKind s) (peel v))
   unfolding single meetings schemaKind
   at-roots (Schema.Plain k) v k' h = h
   at-roots (Schema.Fixed n) v k h = h

@@ -4,7 +4,6 @@ use mathlib.Core.Path.{_≡_, refl}
 use mathlib.Core.List.{List, [], _∷_}
 use mathlib.Core.Option.{Option, some}
 use mathlib.Core.Bool.{Bool, true, false, _&&_, _||_}
-use native.Mathlib.Omega.{arith}
 use lib.Dec.{T, eqb, eqb→eq}
 use lib.ListN.{length, getD}
 use lib.Ieee.Fits.{and-l, and-r}
@@ -13,7 +12,8 @@ use Rattle.text.specs.Text.{Text, same}
 use Rattle.text.proofs.TextLaws.{same→≡}
 use Rattle.frame.specs.Kind
 use Rattle.frame.specs.Tree.{Value, Values, Entries, Schema, Fields, Variants, noEntries, entry, noFields, field, noVariants, variant, kindOf, is, index, octets, items, entries, peel, schemaKind}
-use Rattle.stability.specs.Matches.{allItems, allEntries, symbolAt, statedSize, agrees, fieldsAgree, variantAgrees, matches, namesAre, exactNames, exactFields}
+use Rattle.avro.specs.Matches.{allItems, allEntries, symbolAt, statedSize, agrees, fieldsAgree, variantAgrees, matches, namesAre, exactNames, exactFields}
+use Rattle.avro.proofs.Made.{symbol-at}
 use Rattle.stability.specs.Stability.{hasName}
 use Rattle.stability.proofs.Meeting.{Item, Held, item-holds, entry-holds}
 use Rattle.stability.proofs.Stripping.{names}
@@ -83,12 +83,6 @@ module _ (decimal : Option ℕ → List ℕ → Bool) where
       first-false false b e = refl
 
   -- "each symbol is the one at its index"
-  symbol-at : (ss : List Text) (i : ℕ) (t : Text) → T (symbolAt ss i t) → (i < length ss) × (getD ss i [] ≡ t)
-  unfolding symbolAt
-  symbol-at [] i t h = absurd h
-  symbol-at (s ∷ ss) zero t h = (omega arith, same→≡ s t h)
-  symbol-at (s ∷ ss) (suc i) t h = let r : (i < length ss) × (getD ss i [] ≡ t) = symbol-at ss i t h in (omega (arith, r .0), r .1)
-
   pub matches-symbol : (ss : List Text) (d : Option Text) (i : ℕ) (t : Text) → T (agrees decimal (Schema.Enum ss d) (Value.Enum i t)) → (i < length ss) × (getD ss i [] ≡ t)
   unfolding agrees kindOf index octets
   matches-symbol ss d i t h = symbol-at ss i t h

@@ -15,7 +15,8 @@ use Rattle.frame.specs.Tree.{Value, Values, Entries, Schema, Fields, item, noEn
 use Rattle.frame.specs.Sound.{fieldsSound, hasField}
 use Rattle.frame.proofs.SoundLaws.{sound-field}
 use Rattle.avro.specs.Resolve.{lastUnder}
-use Rattle.stability.specs.Stability.{isNull, underUnion, change, mapItems, mapEntries, hasName, keepEntry, keepEntries, strip, stripField}
+use Rattle.avro.specs.Pairs.{isNull}
+use Rattle.stability.specs.Stability.{underUnion, change, mapItems, mapEntries, hasName, keepEntry, keepEntries, strip, stripField}
 use Rattle.stability.proofs.Alike.{same-refl, lastUnder-keep, null-strip}
 use Rattle.stability.proofs.Meeting.{FieldOf, this-field, later-field}
 

@@ -14,7 +14,9 @@ use Rattle.hulmbax.specs.Answer.{answer, bufferAfter, workspaceAfter, workspace
 use Rattle.hulmbax.specs.Entry.{resolvedOf}
 use Rattle.hulmbax.specs.declared.Resolved.{Resolved}
 use Rattle.hulmbax.specs.declared.Resolved.the-variants.{Accepted, Refused}
-use Rattle.stability.specs.Stability.{nullablePairs, noStringMeets, fits, strip}
+use Rattle.avro.specs.Matches.{fits}
+use Rattle.avro.specs.Pairs.{nullablePairs}
+use Rattle.stability.specs.Stability.{noStringMeets, strip}
 
 -- a call of the entry with a schema and a record: what the result buffer and the workspace hold before and after it, and its answer. The slices hold bytes,
 -- and the three equalities are the entry's contract

@@ -1,3 +1,2 @@
-pub mod Matches
 pub mod Stability
 pub mod Claims

@@ -1,84 +1,15 @@
--- The words of demand 3, as docs/RULES.md has them under "What is promised of results": nullable pairs, what it is to fit, to meet, and what alike records lose.
-use Prim.Native.Nat.{ℕ, zero, suc}
-use mathlib.Core.List.{List, [], _∷_}
+-- The words of demand 3, as docs/RULES.md has them under "What is promised of results": what it is to meet, and what alike records lose.
+use Prim.Native.Nat.{ℕ}
 use mathlib.Core.Option.{Option, none, some}
-use mathlib.Core.Bool.{Bool, true, false, _&&_, _||_, not, Bool·beq}
+use mathlib.Core.Bool.{Bool, true, false, _&&_, _||_, not}
 use lib.Dec.{eqb}
-use lib.ListN.{length}
 use Rattle.base.specs.Base.{if_then_else_}
 use Rattle.text.specs.Text.{Text, same}
 use Rattle.frame.specs.Kind
-use Rattle.frame.specs.Tree.{Value, Values, Entries, Schema, Fields, Variants, noItems, item, noEntries, entry, noFields, field, noVariants, variant, is, index, octets, items, entries, peel, schemaKind}
+use Rattle.frame.specs.Tree.{Value, Values, Entries, Schema, Fields, Variants, noItems, item, noEntries, entry, noFields, field, noVariants, variant, is, items, entries, peel, schemaKind}
 use Rattle.avro.specs.Resolve.{lastUnder}
-use Rattle.stability.specs.Matches.{allItems, allEntries, symbolAt}
-
--- ---- nullable pairs
-
--- the kind table leads to position p from kind 00 and no other, and never leads kind 00 elsewhere
-unfoldable pub onlyNullLeadsTo : ℕ → List (ℕ × ℕ) → Bool
-onlyNullLeadsTo p [] = true
-onlyNullLeadsTo p (e ∷ es) = Bool·beq (eqb (e .0) Kind.Null) (eqb (e .1) p) && onlyNullLeadsTo p es
-
-abbrev pub isNull : Schema → Bool
-isNull s = eqb (schemaKind s) Kind.Null
-
--- a nullable pair (the rules' term): Null and one variant that isn't Null, with such a kind table
-unfoldable pub nullablePair : Variants → List (ℕ × ℕ) → Bool
-nullablePair noVariants ks = false
-nullablePair (variant a noVariants) ks = false
-nullablePair (variant a (variant b noVariants)) ks =
-    if isNull a then not (isNull b) && onlyNullLeadsTo 0 ks else isNull b && onlyNullLeadsTo 1 ks
-nullablePair (variant a (variant b (variant c vs))) ks = false
-
--- every union of the schema is a nullable pair
-unfoldable mutual
-  pub nullablePairs : Schema → Bool
-  nullablePairs (Schema.Plain k) = true
-  nullablePairs (Schema.Fixed n) = true
-  nullablePairs (Schema.Decimal p s n) = true
-  nullablePairs (Schema.Uuid f) = true
-  nullablePairs (Schema.Duration n) = true
-  nullablePairs (Schema.Enum ss d) = true
-  nullablePairs (Schema.Array s) = nullablePairs s
-  nullablePairs (Schema.Map s) = nullablePairs s
-  nullablePairs (Schema.Record fs) = fieldPairs fs
-  nullablePairs (Schema.Union vs ks ns) = nullablePair vs ks && variantPairs vs
-
-  pub fieldPairs : Fields → Bool
-  fieldPairs noFields = true
-  fieldPairs (field n d s fs) = nullablePairs s && fieldPairs fs
-
-  pub variantPairs : Variants → Bool
-  variantPairs noVariants = true
-  variantPairs (variant s vs) = nullablePairs s && variantPairs vs
-
--- ---- fitting
-
-unfoldable mutual
-  -- a value fits a schema (the rules' term): kinds and sizes are equal, but for a Decimal's length; exactly the schema's field names in each Record, in schema order;
-  -- each symbol is the one at its index; each Union fits the variant at its index
-  pub fits : Schema → Value → Bool
-  fits (Schema.Plain k) v = is k v
-  fits (Schema.Fixed n) v = is Kind.Fixed v && eqb (length (octets v)) n
-  fits (Schema.Decimal p s n) v = is Kind.Decimal v
-  fits (Schema.Uuid f) v = is Kind.Uuid v
-  fits (Schema.Duration n) v = is Kind.Duration v
-  fits (Schema.Enum ss d) v = is Kind.Enum v && symbolAt ss (index v) (octets v)
-  fits (Schema.Array s) v = is Kind.Array v && allItems (λ w. fits s w) (items v)
-  fits (Schema.Map s) v = is Kind.Map v && allEntries (λ w. fits s w) (entries v)
-  fits (Schema.Record fs) v = is Kind.Record v && fieldsFit fs (entries v)
-  fits (Schema.Union vs ks ns) v = is Kind.Union v && variantFits vs (index v) (peel v)
-
-  pub fieldsFit : Fields → Entries → Bool
-  fieldsFit noFields noEntries = true
-  fieldsFit noFields (entry m v es) = false
-  fieldsFit (field n d s fs) noEntries = false
-  fieldsFit (field n d s fs) (entry m v es) = same m n && fits s v && fieldsFit fs es
-
-  pub variantFits : Variants → ℕ → Value → Bool
-  variantFits noVariants i v = false
-  variantFits (variant s vs) zero v = fits s v
-  variantFits (variant s vs) (suc i) v = variantFits vs i v
+use Rattle.avro.specs.Matches.{allItems, allEntries}
+use Rattle.avro.specs.Pairs.{isNull}
 
 -- ---- meeting
 

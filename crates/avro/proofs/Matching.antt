@@ -13,8 +13,7 @@ use Rattle.frame.specs.Tree.{Value, Values, Entries, Schema, Fields, Variants, 
 use Rattle.frame.specs.ValueFrame.{plain, contents, kindContent}
 use Rattle.frame.specs.Sound.{schemaSound, uuidSizeSound}
 use Rattle.frame.proofs.RoundTrip.{held, octetsHeld, scalarHeld}
-use Rattle.stability.specs.Matches.{allItems, allEntries, symbolAt, statedSize, anySize, agrees, fieldsAgree, variantAgrees, matches, namesAre, exactNames, exactFields, exactVariant}
-use Rattle.stability.specs.Stability.{fits, fieldsFit, variantFits}
+use Rattle.avro.specs.Matches.{allItems, allEntries, symbolAt, statedSize, anySize, agrees, fieldsAgree, variantAgrees, matches, namesAre, exactNames, exactFields, exactVariant, fits, fieldsFit, variantFits}
 
 -- ---- two tests of a list are a test of both
 

@@ -10,7 +10,7 @@ use lib.Ieee.Fits.{and-l, and-r, and-i}
 use Rattle.base.specs.Base.{if_then_else_}
 use Rattle.frame.specs.Kind
 use Rattle.frame.specs.Tree.{Schema, Variants, noVariants, variant}
-use Rattle.stability.specs.Stability.{isNull, onlyNullLeadsTo, nullablePair}
+use Rattle.avro.specs.Pairs.{isNull, onlyNullLeadsTo, nullablePair}
 
 -- the table leads kind k to position q
 pub data Leads (k q : ℕ) : List (ℕ × ℕ) → Type 0 where

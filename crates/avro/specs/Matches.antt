@@ -1,4 +1,4 @@
--- What it is for a value to match a schema (docs/RULES.md, "What is promised of results"), and to have exactly the schema's field names.
+-- What it is for a value to match a schema, to have exactly its field names, and to fit it (docs/RULES.md, "What is promised of results").
 use Prim.Native.Nat.{ℕ, zero, suc}
 use mathlib.Core.List.{List, [], _∷_}
 use mathlib.Core.Option.{Option, none, some}
@@ -95,3 +95,31 @@ unfoldable mutual
   exactVariant noVariants i v = true
   exactVariant (variant s vs) zero v = exactNames s v
   exactVariant (variant s vs) (suc i) v = exactVariant vs i v
+
+-- ---- fitting
+
+unfoldable mutual
+  -- a value fits a schema (the rules' term): kinds and sizes are equal, but for a Decimal's length; exactly the schema's field names in each Record, in schema order;
+  -- each symbol is the one at its index; each Union fits the variant at its index
+  pub fits : Schema → Value → Bool
+  fits (Schema.Plain k) v = is k v
+  fits (Schema.Fixed n) v = is Kind.Fixed v && eqb (length (octets v)) n
+  fits (Schema.Decimal p s n) v = is Kind.Decimal v
+  fits (Schema.Uuid f) v = is Kind.Uuid v
+  fits (Schema.Duration n) v = is Kind.Duration v
+  fits (Schema.Enum ss d) v = is Kind.Enum v && symbolAt ss (index v) (octets v)
+  fits (Schema.Array s) v = is Kind.Array v && allItems (λ w. fits s w) (items v)
+  fits (Schema.Map s) v = is Kind.Map v && allEntries (λ w. fits s w) (entries v)
+  fits (Schema.Record fs) v = is Kind.Record v && fieldsFit fs (entries v)
+  fits (Schema.Union vs ks ns) v = is Kind.Union v && variantFits vs (index v) (peel v)
+
+  pub fieldsFit : Fields → Entries → Bool
+  fieldsFit noFields noEntries = true
+  fieldsFit noFields (entry m v es) = false
+  fieldsFit (field n d s fs) noEntries = false
+  fieldsFit (field n d s fs) (entry m v es) = same m n && fits s v && fieldsFit fs es
+
+  pub variantFits : Variants → ℕ → Value → Bool
+  variantFits noVariants i v = false
+  variantFits (variant s vs) zero v = fits s v
+  variantFits (variant s vs) (suc i) v = variantFits vs i v
