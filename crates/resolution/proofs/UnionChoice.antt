@@ -13,7 +13,7 @@ use Rattle.base.specs.Base.{if_then_else_, ok, stop, after, accepted}
 use Rattle.number.specs.Number.{bytesOf}
 use Rattle.text.specs.Read.{Read}
 use Rattle.frame.specs.Kind
-use Rattle.frame.specs.Tree.{Value, Schema, Variants, kindOf, schemaKind, peel}
+use Rattle.frame.specs.Tree.{Value, Schema, Variants, kindOf, schemaKind, schema-to-base-schemakind, peel}
 use Rattle.frame.specs.ValueFrame.{encodeValue}
 use Rattle.frame.specs.SchemaFrame as frame
 use Rattle.frame.specs.Sound.{schemaSound, variantsSound, kindsSound, positionsSound}
@@ -22,7 +22,7 @@ use Rattle.types.specs.Contract.{encoded}
 use Rattle.buffer.specs.Built.{Built, Wrote}
 use Rattle.buffer.specs.declared.Answer.{Answer}
 use Rattle.buffer.specs.declared.Answer.the-variants.{Accepted, Refused}
-use Rattle.avro.specs.Union.{Trial, noTrial, schema-to-base-schemakind, unnamedKind, namedKind, lookupKind, takeVariant, unnamedVariant, namedVariant, firstThatResolves, choose, find-schema-with-known-schemata, inUnion, mustBeTried, tableLookup, resolve-union}
+use Rattle.avro.specs.Union.{Trial, noTrial, unnamedKind, namedKind, lookupKind, takeVariant, unnamedVariant, namedVariant, firstThatResolves, choose, find-schema-with-known-schemata, inUnion, mustBeTried, tableLookup, resolve-union}
 use Rattle.avro.specs.Resolve.{resolve, trials}
 use Rattle.avro.proofs.UnionLaws.{none-some, take-accepted, take-untried, take-refused, takes-other, takes-by}
 use Rattle.avro.specs.Defaults.{defaultsShort, variantDefaultsShort}

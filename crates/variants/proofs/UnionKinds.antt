@@ -14,13 +14,13 @@ use Rattle.number.specs.Number.{numberAt}
 use Rattle.number.proofs.Laws.{numberAt-one}
 use Rattle.text.specs.Read.{Read, _>>=_, readNumber}
 use Rattle.text.proofs.ReadLaws.{readNumber-some}
-use Rattle.frame.specs.Tree.{Schema, UuidForm, schemaKind}
+use Rattle.frame.specs.Tree.{Schema, UuidForm, schemaKind, schema-to-base-schemakind}
 use Rattle.frame.specs.Readers.{readOption}
 use Rattle.frame.specs.SchemaFrame.{readUuidForm, readSchemaContent, readSchema}
 use Rattle.frame.proofs.Reading.{read-what, read-rest, not-both, bind-inv, map-inv, reads-some, reads-number, option-zero, option-one, option-long, option-is-one}
 use Rattle.frame.proofs.SchemaNodes.{schema-kind}
 use Rattle.schema_parts.proofs.Leaves.{kind-past}
-use Rattle.avro.specs.Union.{schema-to-base-schemakind, unnamedKind, namedKind, mustBeTried}
+use Rattle.avro.specs.Union.{unnamedKind, namedKind, mustBeTried}
 use Rattle.variants.specs.Ways.{wantedOf, Among, WasNamed, baseRead, soonerOf}
 use Rattle.find.specs.declared.Found.{Found}
 use Rattle.variants.specs.declared.Tried.{Tried}

@@ -9,11 +9,11 @@ use lib.ListN.{length, drop, getD}
 use Rattle.base.specs.Base.{if_then_else_}
 use Rattle.number.specs.Number.{numberAt}
 use Rattle.text.specs.Read.{Read}
-use Rattle.frame.specs.Tree.{Schema, Variants}
+use Rattle.frame.specs.Tree.{Schema, Variants, schema-to-base-schemakind}
 use Rattle.frame.specs.Readers.{readMany}
 use Rattle.frame.specs.SchemaFrame.{readSchema}
 use Rattle.frame.specs.Sound.{countVariants}
-use Rattle.avro.specs.Union.{schema-to-base-schemakind, lookupKind}
+use Rattle.avro.specs.Union.{lookupKind}
 use Rattle.find.specs.declared.Found.{Found}
 use Rattle.variants.specs.declared.Choice.{Choice}
 use Rattle.variants.specs.declared.Positions.{Positions}
