@@ -5,9 +5,8 @@ use frame::Checked;
 use frame::both;
 use number::read2;
 use schema_default::default_check;
-use schema_parts::leads_check;
 use schema_parts::leaf_check;
-use schema_parts::positions_check;
+use schema_parts::tables_check;
 use text::Len;
 use text::text_len;
 ghost use Rattle.frame.specs.Readers.{readList};
@@ -54,7 +53,7 @@ fn content_check(s: &[u8], kind: u8, depth: usize) -> Checked
     leaf_check(s, kind)
 }
 
-// Variants and both tables.
+// Variants and tables.
 fn union_check(s: &[u8], depth: usize) -> Checked
     ensures { λ r. ⌜ Checks schemaSound (readSchemaContent (readSchema depth) 10 (now (s .entry))) (now (s .entry)) r ⌝ }
 {
@@ -62,15 +61,11 @@ fn union_check(s: &[u8], depth: usize) -> Checked
         return Checked::Broken;
     };
     let count = read2(s, 0) as usize;
-    let Checked::Of(b, kinds) = leads_check(&s[a..], count) else {
+    let Checked::Of(b, fine) = tables_check(&s[a..], count) else {
         return Checked::Broken;
     };
-    let e = a + b;
-    let Checked::Of(d, named) = positions_check(&s[e..], count) else {
-        return Checked::Broken;
-    };
-    let all = both(both(both(0 < count, ok), kinds), named);
-    Checked::Of(e + d, all)
+    let all = both(both(0 < count, ok), fine);
+    Checked::Of(a + b, all)
 }
 
 // Variants, none of which is a union.

@@ -6,12 +6,14 @@ use schema_parts::leaf_check;
 use text::content;
 use value::value_len;
 ghost use mathlib.Core.Path.{_≡_};
+ghost use mathlib.Core.List.{List};
 ghost use Prim.Native.Nat.{_≤_, _<_};
 ghost use Rattle.text.specs.Read.{readNumber, readText};
 ghost use Rattle.text.specs.Measured.{Reads};
+ghost use Rattle.frame.specs.Tree.{Schema};
 ghost use Rattle.frame.specs.Readers.{readList, readOption};
 ghost use Rattle.frame.specs.ValueFrame.{readValue};
-ghost use Rattle.frame.specs.SchemaFrame.{bare, readLead, readSymbols, readSchemaContent, readSchema};
+ghost use Rattle.frame.specs.SchemaFrame.{Form, bare, readLead, readTables, readSymbols, readSchemaContent, readSchema};
 ghost use Rattle.frame.specs.Checks.{Spans};
 
 // Whether a kind has no content: most fields of a record are of such a kind.
@@ -71,7 +73,7 @@ pub fn leaf_skip(s: &[u8], kind: u8) -> usize
 }
 
 // The kind table: 3 bytes for each entry.
-pub fn leads_skip(s: &[u8]) -> usize
+fn leads_skip(s: &[u8]) -> usize
     requires { ⌜ Reads (readList readLead (now s)) ⌝ }
     ensures { λ r. ⌜ Spans (readList readLead (now (s .entry))) (now (s .entry)) r ⌝ }
 {
@@ -79,9 +81,18 @@ pub fn leads_skip(s: &[u8]) -> usize
 }
 
 // The named positions: 2 bytes for each.
-pub fn positions_skip(s: &[u8]) -> usize
+fn positions_skip(s: &[u8]) -> usize
     requires { ⌜ Reads (readList (readNumber 2) (now s)) ⌝ }
     ensures { λ r. ⌜ Spans (readList (readNumber 2) (now (s .entry))) (now (s .entry)) r ⌝ }
 {
     2 + 2 * (read2(s, 0) as usize)
+}
+
+// Both tables.
+pub fn tables_skip(s: &[u8]) -> usize
+    requires { ⌜ ((vs : List Schema) × Reads (readTables Form.prepared vs (now s))) ⌝ }
+    ensures { λ r. ⌜ ((vs : List Schema) → Spans (readTables Form.prepared vs (now (s .entry))) (now (s .entry)) r) ⌝ }
+{
+    let a = leads_skip(s);
+    a + positions_skip(&s[a..])
 }

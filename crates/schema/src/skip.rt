@@ -3,9 +3,8 @@
 use crate::plain::default_skip;
 use crate::plain::enum_skip;
 use crate::plain::is_bare;
-use crate::plain::leads_skip;
 use crate::plain::leaf_skip;
-use crate::plain::positions_skip;
+use crate::plain::tables_skip;
 use number::read2;
 use text::content;
 ghost use Rattle.text.specs.Measured.{Reads};
@@ -47,14 +46,13 @@ fn content_skip(s: &[u8], kind: u8, depth: usize) -> usize
     leaf_skip(s, kind)
 }
 
-// Variants and both tables.
+// Variants and tables.
 fn union_skip(s: &[u8], depth: usize) -> usize
     requires { ⌜ Reads (readSchemaContent (readSchema depth) 10 (now s)) ⌝ }
     ensures { λ r. ⌜ Spans (readSchemaContent (readSchema depth) 10 (now (s .entry))) (now (s .entry)) r ⌝ }
 {
     let a = variants_skip(s, depth);
-    let e = a + leads_skip(&s[a..]);
-    e + positions_skip(&s[e..])
+    a + tables_skip(&s[a..])
 }
 
 fn variants_skip(s: &[u8], depth: usize) -> usize

@@ -9,7 +9,7 @@ ghost use Rattle.text.specs.Read.{Read, readNumber, readText};
 ghost use Rattle.text.specs.Measured.{Measured};
 ghost use Rattle.frame.specs.Tree.{Schema};
 ghost use Rattle.frame.specs.Readers.{readList, readOption};
-ghost use Rattle.frame.specs.SchemaFrame.{readSchemaContent};
+ghost use Rattle.frame.specs.SchemaFrame.{Form, readFormed};
 ghost use Rattle.frame.specs.Sound.{schemaSound};
 ghost use Rattle.frame.specs.Checks.{Checks};
 
@@ -74,7 +74,7 @@ fn option_size_len(s: &[u8]) -> Len
 
 // Symbols and default.
 fn enum_check(s: &[u8]) -> Checked
-    ensures { λ r. ⌜ ((node : List ℕ → Read Schema) → Checks schemaSound (readSchemaContent node 12 (now (s .entry))) (now (s .entry)) r) ⌝ }
+    ensures { λ r. ⌜ ((form : Form) (node : List ℕ → Read Schema) → Checks schemaSound (readFormed form node 12 (now (s .entry))) (now (s .entry)) r) ⌝ }
 {
     let Len::Of(a) = texts_measured(s) else {
         return Checked::Broken;
@@ -87,7 +87,7 @@ fn enum_check(s: &[u8]) -> Checked
 
 // Precision, scale and size.
 fn decimal_check(s: &[u8]) -> Checked
-    ensures { λ r. ⌜ ((node : List ℕ → Read Schema) → Checks schemaSound (readSchemaContent node 14 (now (s .entry))) (now (s .entry)) r) ⌝ }
+    ensures { λ r. ⌜ ((form : Form) (node : List ℕ → Read Schema) → Checks schemaSound (readFormed form node 14 (now (s .entry))) (now (s .entry)) r) ⌝ }
 {
     if s.len() < 8 {
         return Checked::Broken;
@@ -99,7 +99,7 @@ fn decimal_check(s: &[u8]) -> Checked
 }
 
 fn fixed_check(s: &[u8]) -> Checked
-    ensures { λ r. ⌜ ((node : List ℕ → Read Schema) → Checks schemaSound (readSchemaContent node 13 (now (s .entry))) (now (s .entry)) r) ⌝ }
+    ensures { λ r. ⌜ ((form : Form) (node : List ℕ → Read Schema) → Checks schemaSound (readFormed form node 13 (now (s .entry))) (now (s .entry)) r) ⌝ }
 {
     if s.len() < 2 {
         return Checked::Broken;
@@ -109,7 +109,7 @@ fn fixed_check(s: &[u8]) -> Checked
 
 // The form of a UUID; one of fixed size has 16 bytes.
 fn uuid_check(s: &[u8]) -> Checked
-    ensures { λ r. ⌜ ((node : List ℕ → Read Schema) → Checks schemaSound (readSchemaContent node 15 (now (s .entry))) (now (s .entry)) r) ⌝ }
+    ensures { λ r. ⌜ ((form : Form) (node : List ℕ → Read Schema) → Checks schemaSound (readFormed form node 15 (now (s .entry))) (now (s .entry)) r) ⌝ }
 {
     if s.len() == 0 {
         return Checked::Broken;
@@ -133,7 +133,7 @@ fn uuid_check(s: &[u8]) -> Checked
 
 // The size of a Duration is 12.
 fn duration_check(s: &[u8]) -> Checked
-    ensures { λ r. ⌜ ((node : List ℕ → Read Schema) → Checks schemaSound (readSchemaContent node 25 (now (s .entry))) (now (s .entry)) r) ⌝ }
+    ensures { λ r. ⌜ ((form : Form) (node : List ℕ → Read Schema) → Checks schemaSound (readFormed form node 25 (now (s .entry))) (now (s .entry)) r) ⌝ }
 {
     if s.len() < 2 {
         return Checked::Broken;
@@ -145,7 +145,7 @@ fn duration_check(s: &[u8]) -> Checked
 // The content of a kind that has no child nodes.
 pub fn leaf_check(s: &[u8], kind: u8) -> Checked
     requires { ⌜ (8 ≤ kind → 11 < kind) ⌝ }
-    ensures { λ r. ⌜ ((node : List ℕ → Read Schema) → Checks schemaSound (readSchemaContent node kind (now (s .entry))) (now (s .entry)) r) ⌝ }
+    ensures { λ r. ⌜ ((form : Form) (node : List ℕ → Read Schema) → Checks schemaSound (readFormed form node kind (now (s .entry))) (now (s .entry)) r) ⌝ }
 {
     if kind < 8 {
         return Checked::Of(0, true);
