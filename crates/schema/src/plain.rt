@@ -1,5 +1,6 @@
 // The lengths of parts of schema nodes that hold no node and are known to be there.
 use frame::Checked;
+use frame::kind;
 use frame::texts_len;
 use number::read2;
 use schema_parts::leaf_check;
@@ -10,6 +11,7 @@ ghost use mathlib.Core.List.{List};
 ghost use Prim.Native.Nat.{_≤_, _<_};
 ghost use Rattle.text.specs.Read.{readNumber, readText};
 ghost use Rattle.text.specs.Measured.{Reads};
+ghost use Rattle.frame.specs.Kind;
 ghost use Rattle.frame.specs.Tree.{Schema};
 ghost use Rattle.frame.specs.Readers.{readList, readOption};
 ghost use Rattle.frame.specs.ValueFrame.{readValue};
@@ -20,13 +22,13 @@ ghost use Rattle.frame.specs.Checks.{Spans};
 pub fn is_bare(kind: u8) -> bool
     ensures { λ r. ⌜ r ≡ bare kind ⌝ }
 {
-    if kind <= 0x07 {
+    if kind <= kind::STRING {
         return true;
     }
-    if kind < 0x10 {
+    if kind < kind::DATE {
         return false;
     }
-    kind <= 0x18
+    kind <= kind::LOCAL_TIMESTAMP_NANOS
 }
 
 // 00, or 01 and a value.
@@ -63,7 +65,7 @@ pub fn enum_skip(s: &[u8]) -> usize
 
 // The content of a kind without child nodes or texts: its check reads a few bytes.
 pub fn leaf_skip(s: &[u8], kind: u8) -> usize
-    requires { ⌜ (8 ≤ kind → 11 < kind) × Reads (readSchemaContent (readSchema 0) kind (now s)) ⌝ }
+    requires { ⌜ (Kind.Array ≤ kind → Kind.Record < kind) × Reads (readSchemaContent (readSchema 0) kind (now s)) ⌝ }
     ensures { λ r. ⌜ Spans (readSchemaContent (readSchema 0) kind (now (s .entry))) (now (s .entry)) r ⌝ }
 {
     match leaf_check(s, kind) {

@@ -1,6 +1,7 @@
 // The two tables of a union: its leading kinds and its named positions.
 use frame::Checked;
 use frame::both;
+use frame::kind;
 use number::read2;
 ghost use mathlib.Core.Path.{_≡_};
 ghost use mathlib.Core.List.{List};
@@ -13,6 +14,9 @@ ghost use Rattle.frame.specs.SchemaFrame.{Form, readLead, readTables};
 ghost use Rattle.frame.specs.Sound.{kindsSound, positionsSound, tablesSound};
 ghost use Rattle.frame.specs.Checks.{Checks};
 
+// The last kind.
+const LAST: usize = kind::DURATION as usize;
+
 // Whether an entry of the kind table may stand behind kinds below `least`.
 fn lead_sound(kind: usize, position: usize, least: usize, count: usize) -> bool
     ensures { λ r. ⌜ r ≡ leb least kind && leb kind 25 && ltb position count ⌝ }
@@ -20,7 +24,7 @@ fn lead_sound(kind: usize, position: usize, least: usize, count: usize) -> bool
     if kind < least {
         return false;
     }
-    if 25 < kind {
+    if LAST < kind {
         return false;
     }
     position < count
