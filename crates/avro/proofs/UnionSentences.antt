@@ -12,8 +12,8 @@ use lib.ListN.{length, getD}
 use borrow.Author.Tests.{eq-eqb, ne-eqb, lt-ltb, le-ltb, eqb-true}
 use Rattle.base.specs.Base.{if_then_else_, ok, stop, after, accepted}
 use Rattle.frame.specs.Kind
-use Rattle.frame.specs.Tree.{Value, Schema, UuidForm, Fields, Variants, variant, kindOf, peel, schemaKind}
-use Rattle.avro.specs.Union.{Trial, noTrial, schema-to-base-schemakind, unnamedKind, namedKind, lookupKind, tableLookup, mustBeTried, takeVariant, unnamedVariant, takes, namedVariant, firstThatResolves, choose, find-schema-with-known-schemata, inUnion, resolve-union}
+use Rattle.frame.specs.Tree.{Value, Schema, UuidForm, Fields, Variants, variant, kindOf, peel, schemaKind, schema-to-base-schemakind}
+use Rattle.avro.specs.Union.{Trial, noTrial, unnamedKind, namedKind, lookupKind, tableLookup, mustBeTried, takeVariant, unnamedVariant, takes, namedVariant, firstThatResolves, choose, find-schema-with-known-schemata, inUnion, resolve-union}
 use Rattle.avro.specs.Resolve.{resolve, trials}
 use Rattle.avro.proofs.UnionLaws.{none-some, take-accepted, take-untried, take-refused, first-none, first-at, first-is, first-missed, takes-by, takes-is, named-none, named-at, named-is, named-missed}
 

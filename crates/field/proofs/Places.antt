@@ -14,11 +14,11 @@ use Rattle.text.proofs.ReadLaws.{readText-counted}
 use Rattle.frame.specs.Tree.{Value, Schema}
 use Rattle.frame.specs.Readers.{readOption}
 use Rattle.frame.specs.ValueFrame.{readValue}
-use Rattle.frame.specs.SchemaFrame.{readField, readSchema}
+use Rattle.frame.specs.SchemaFrame.{Under, readField, readSchemaUnder}
 use Rattle.frame.specs.Checks.{Spans}
 use Rattle.frame.proofs.Reading.{read-what, read-rest, bind-inv, map-inv, reads-some, option-zero, option-one, option-long, option-is-one}
 use Rattle.frame.proofs.Measuring.{spans-le}
-use Rattle.field.specs.Parts.{DefaultAt, FieldParts}
+use Rattle.field.specs.Parts.{DefaultAt, FieldPartsUnder}
 
 -- ---- an optional thing that was read
 
@@ -69,9 +69,9 @@ parted node s r =
 
 -- ---- where they begin: the flag stands at n
 
-module _ (depth : ℕ) (s : List ℕ) (r : Reads (readField (readSchema depth) s)) (name : Text) (n : ℕ) (g : readCounted s ≡ some (name, drop n s)) where
-  field : Parted (readSchema depth) s
-  field = parted (readSchema depth) s r
+module _ (u : Under) (depth : ℕ) (s : List ℕ) (r : Reads (readField (readSchemaUnder u depth) s)) (name : Text) (n : ℕ) (g : readCounted s ≡ some (name, drop n s)) where
+  field : Parted (readSchemaUnder u depth) s
+  field = parted (readSchemaUnder u depth) s r
 
   second-at : readOption (readValue 16) (drop n s) ≡ some (field .default, field .behind)
   second-at = ap (readOption (readValue 16)) (sym (read-rest (sym (field .first) ∙ g))) ∙ field .second
@@ -90,7 +90,7 @@ module _ (depth : ℕ) (s : List ℕ) (r : Reads (readField (readSchema depth) s
     no-default : _≡_ {A = Read (Option Value)} (some (none, drop 1 (drop n s))) (some (field .default, field .behind))
     no-default = option-nothing (readValue 16) (drop n s) _ _ second-at (flag-byte ∙ z)
 
-    pub parts-none : (at : ℕ) → FieldParts depth s (record { default = false; «default_at» = at; «schema_at» = n + 1 })
+    pub parts-none : (at : ℕ) → FieldPartsUnder u depth s (record { default = false; «default_at» = at; «schema_at» = n + 1 })
     unfolding DefaultAt
     parts-none at = record {
       name = field .name;
@@ -100,7 +100,7 @@ module _ (depth : ℕ) (s : List ℕ) (r : Reads (readField (readSchema depth) s
       reads = field .whole ∙ ap (λ d. some ((field .name, d, field .tree), field .rest)) (sym (read-what no-default));
       default-at = tt;
       inside = behind-inside;
-      schema-at = ap (readSchema depth) (sym (drop-drop 1 n s) ∙ read-rest no-default) ∙ field .third;
+      schema-at = ap (readSchemaUnder u depth) (sym (drop-drop 1 n s) ∙ read-rest no-default) ∙ field .third;
     }
 
   -- 01: the default stands behind the flag, and the schema behind the default
@@ -122,7 +122,7 @@ module _ (depth : ℕ) (s : List ℕ) (r : Reads (readField (readSchema depth) s
       unfolding Spans
       behind-is = sym (drop-drop m (n + 1) s) ∙ read-rest (sym (w .1 .1) ∙ default-is)
 
-      pub parts-some : FieldParts depth s (record { default = true; «default_at» = n + 1; «schema_at» = n + 1 + m })
+      pub parts-some : FieldPartsUnder u depth s (record { default = true; «default_at» = n + 1; «schema_at» = n + 1 + m })
       unfolding DefaultAt
       parts-some = record {
         name = field .name;
@@ -132,5 +132,5 @@ module _ (depth : ℕ) (s : List ℕ) (r : Reads (readField (readSchema depth) s
         reads = field .whole ∙ ap (λ d. some ((field .name, d, field .tree), field .rest)) (a-default .1 .1);
         default-at = (behind-inside, (field .behind, default-is));
         inside = schema-inside;
-        schema-at = ap (readSchema depth) behind-is ∙ field .third;
+        schema-at = ap (readSchemaUnder u depth) behind-is ∙ field .third;
       }

@@ -8,7 +8,7 @@ use lib.ListN.{length, drop}
 use Rattle.text.specs.Text.{Text}
 use Rattle.frame.specs.Tree.{Value, Schema}
 use Rattle.frame.specs.ValueFrame.{readValue}
-use Rattle.frame.specs.SchemaFrame.{readSchema, readField}
+use Rattle.frame.specs.SchemaFrame.{Under, asWritten, readSchemaUnder, readField}
 use Rattle.field.specs.declared.FieldAt.{FieldAt}
 
 -- the default is at p if there is one
@@ -19,12 +19,16 @@ DefaultAt s false p none = Unit {0}
 DefaultAt s false p (some d) = ⊥
 
 -- a field at the front of s whose parts are where f says
-pub record FieldParts (depth : ℕ) (s : List ℕ) (f : FieldAt) : Type 0 where
+pub record FieldPartsUnder (u : Under) (depth : ℕ) (s : List ℕ) (f : FieldAt) : Type 0 where
   pub name : Text
   pub default : Option Value
   pub tree : Schema
   pub rest : List ℕ
-  pub reads : readField (readSchema depth) s ≡ some ((name, default, tree), rest)
+  pub reads : readField (readSchemaUnder u depth) s ≡ some ((name, default, tree), rest)
   pub default-at : DefaultAt s (f .default) (f .«default_at») default
   pub inside : f .«schema_at» ≤ length s
-  pub schema-at : readSchema depth (drop (f .«schema_at») s) ≡ some (tree, rest)
+  pub schema-at : readSchemaUnder u depth (drop (f .«schema_at») s) ≡ some (tree, rest)
+
+-- with the tables as they are written
+abbrev pub FieldParts : ℕ → List ℕ → FieldAt → Type 0
+FieldParts = FieldPartsUnder asWritten

@@ -17,12 +17,12 @@ use Rattle.frame.specs.Kind
 use Rattle.frame.specs.Tree.{Value, Schema}
 use Rattle.frame.specs.Readers.{readFlag, readList, readOption}
 use Rattle.frame.specs.ValueFrame.{readValue, writeText, encodeValue}
-use Rattle.frame.specs.SchemaFrame.{Field, fieldsOf, variantsOf, readField, readLead, readUuidForm, readSymbols, bare, readSchemaContent, readSchema, decodeSchema, writeOption, writeAll, writeList, writeLead, writeUuidForm, encodeSchema, encodeFields, encodeVariants}
+use Rattle.frame.specs.SchemaFrame.{Form, Under, asWritten, Tables, Field, fieldsOf, variantsOf, readField, readLead, readTables, readUuidForm, readSymbols, bare, readFormed, readSchemaContent, readSchemaUnder, readSchema, decodeSchema, writeOption, writeAll, writeList, writeLead, writeUuidForm, encodeSchema, encodeFields, encodeVariants}
 use Rattle.frame.proofs.SchemaNodes.{count-variants}
-use Rattle.frame.proofs.ReadHeld.{Each, Got, got-if, got-bind, number-got, text-got, list-got, option-got, value-got, symbols-got, whole-got, count-fields}
+use Rattle.frame.proofs.ReadHeld.{Each, Got, got-if, got-bind, number-got, text-got, list-got, option-got, value-got, symbols-got, tables-got, whole-got, count-fields}
 use Rattle.frame.proofs.ReadBack.{Exact, Any, Behind, exact-if, exact-bind, exact-then, number-exact, flag-exact, text-exact, list-exact, behind-bind, behind-exact, value-exact, whole-exact}
 use Rattle.frame.proofs.RoundTrip.{held}
-use Rattle.frame.proofs.SchemaRoundTrip.{apart₃, HeldSize, HeldForm, HeldLead, HeldNumbers, HeldFieldNumbers, HeldVariantNumbers}
+use Rattle.frame.proofs.SchemaRoundTrip.{apart₃, HeldSize, HeldForm, HeldNumbers, HeldFieldNumbers, HeldVariantNumbers}
 
 -- ---- the bytes that it was read from
 
@@ -52,6 +52,16 @@ form-exact s h =
     λ _. exact-if _ _ s (eqb f 1) _ _ (λ t. (tt, e ∙ rw (eqb→eq f 1 t), q))
     λ _. exact-if _ _ s (eqb f 2) _ _ (λ t. exact-then _ _ _ _ s r (readNumber 2 r) _ (number-exact 2 r q) λ n x _ g u. (tt, e ∙ rw (eqb→eq f 2 t, g, append-assoc), u))
     λ _. tt
+
+writeTables : Tables → List ℕ
+writeTables ts = writeList writeLead (ts .0) ++ writeList (bytesOf 2) (ts .1)
+
+tables-exact : (vs : List Schema) (s : List ℕ) → T (allBytes s) → Exact Any writeTables s (readTables Form.prepared vs s)
+unfolding readTables writeTables
+tables-exact vs s h =
+    exact-bind _ _ _ _ s (readList readLead s) _ (list-exact writeLead readLead lead-exact s h)
+    λ ks r _ e q. exact-then _ _ _ _ s r (readList (readNumber 2) r) _ (list-exact (bytesOf 2) (readNumber 2) (number-exact 2) r q)
+    λ ns t _ f u. (tt, e ∙ rw (f, append-assoc), u)
 
 writeSymbols : List Text × Option Text → List ℕ
 writeSymbols e = writeList writeText (e .0) ++ writeOption writeText (e .1)
@@ -89,7 +99,7 @@ module _ (node : List ℕ → Read Schema) (g : (s : List ℕ) → T (allBytes s
       λ d t _ f u. exact-then _ _ _ _ s t (node t) _ (g t u) λ a x _ c b. (tt, e ∙ rw (f, c, append-assoc, append-assoc), b)
 
   schema-content-exact : (k : ℕ) (s : List ℕ) → T (allBytes s) → Behind encodeSchema k s (readSchemaContent node k s)
-  unfolding readSchemaContent encodeSchema writeList writeSymbols
+  unfolding readFormed encodeSchema writeList writeTables writeSymbols
   schema-content-exact k s h =
       behind-if _ k s (bare k) _ _ (λ _. (refl, h))
       λ _. behind-if _ k s (eqb k Kind.Array) _ _
@@ -98,9 +108,8 @@ module _ (node : List ℕ → Read Schema) (g : (s : List ℕ) → T (allBytes s
       (λ t. behind-bind _ _ _ k s s (node s) _ (g s h) λ i r _ e q. (rw (eqb→eq k Kind.Map t, e), q))
       λ _. behind-if _ k s (eqb k Kind.Union) _ _
       (λ t. behind-bind _ _ _ k s s (readList node s) _ (list-exact encodeSchema node g s h)
-      λ vs r _ e q. behind-bind _ _ _ k s r (readList readLead r) _ (list-exact writeLead readLead lead-exact r q)
-      λ ks u _ f b. behind-bind _ _ _ k s u (readList (readNumber 2) u) _ (list-exact (bytesOf 2) (readNumber 2) (number-exact 2) u b)
-      λ ns x _ c a. (rw (eqb→eq k Kind.Union t, e, f, c, count-variants vs, variants-written vs) (ap (λ (y : List ℕ). Kind.Union ∷ y) (sym (apart₃ (writeList encodeSchema vs) (writeList writeLead ks) (writeList (bytesOf 2) ns) x))), a))
+      λ vs r _ e q. behind-bind _ _ _ k s r (readTables Form.prepared vs r) _ (tables-exact vs r q)
+      λ ts x _ f b. (rw (eqb→eq k Kind.Union t, e, f, count-variants vs, variants-written vs) (ap (λ (y : List ℕ). Kind.Union ∷ y) (ap (λ (y : List ℕ). writeList encodeSchema vs ++ y) (append-assoc (writeList writeLead (ts .0)) (writeList (bytesOf 2) (ts .1)) x) ∙ sym (apart₃ (writeList encodeSchema vs) (writeList writeLead (ts .0)) (writeList (bytesOf 2) (ts .1)) x))), b))
       λ _. behind-if _ k s (eqb k Kind.Record) _ _
       (λ t. behind-bind _ _ _ k s s (readList (readField node) s) _ (list-exact writeField (readField node) field-exact s h)
       λ fs r _ e q. (rw (eqb→eq k Kind.Record t, e, count-fields fs, fields-written fs), q))
@@ -120,17 +129,13 @@ module _ (node : List ℕ → Read Schema) (g : (s : List ℕ) → T (allBytes s
       λ _. tt
 
 pub schema-exact : (d : ℕ) (s : List ℕ) → T (allBytes s) → Exact Any encodeSchema s (readSchema d s)
-unfolding readSchema allBytes
+unfolding readSchemaUnder allBytes
 schema-exact zero s h = tt
 schema-exact (suc d) [] h = tt
 schema-exact (suc d) (k ∷ s) h =
     behind-exact encodeSchema k s (readSchemaContent (readSchema d) k s) (schema-content-exact (readSchema d) (λ t b. schema-exact d t b) k s (and-r (ltb k 256) (allBytes s) h))
 
 -- ---- numbers in range
-
-lead-numbers : (s : List ℕ) → T (allBytes s) → Got HeldLead (readLead s)
-unfolding readLead
-lead-numbers s h = got-bind _ _ (readNumber 1 s) _ (number-got 1 s h) λ k r p q. got-bind _ _ (readNumber 2 r) _ (number-got 2 r q) λ i t w u. ((p, w), u)
 
 form-numbers : (s : List ℕ) → T (allBytes s) → Got HeldForm (readUuidForm s)
 unfolding readUuidForm
@@ -150,7 +155,7 @@ unfolding variantsOf
 variant-numbers [] h = tt
 variant-numbers (s ∷ ss) h = (h .0, variant-numbers ss (h .1))
 
-module _ (node : List ℕ → Read Schema) (g : (s : List ℕ) → T (allBytes s) → Got HeldNumbers (node s)) where
+module _ (form : Form) (node : List ℕ → Read Schema) (g : (s : List ℕ) → T (allBytes s) → Got HeldNumbers (node s)) where
   read-field-numbers : (s : List ℕ) → T (allBytes s) → Got (λ f. HeldNumbers (f .2)) (readField node s)
   unfolding readField
   read-field-numbers s h =
@@ -165,17 +170,16 @@ module _ (node : List ℕ → Read Schema) (g : (s : List ℕ) → T (allBytes s
       any-value : (s : List ℕ) → T (allBytes s) → Got (λ _. Unit) (readValue 16 s)
       any-value s h = weaken (readValue 16 s) (value-got 16 s h)
 
-  content-numbers : (k : ℕ) (s : List ℕ) → T (allBytes s) → Got HeldNumbers (readSchemaContent node k s)
-  unfolding readSchemaContent
+  content-numbers : (k : ℕ) (s : List ℕ) → T (allBytes s) → Got HeldNumbers (readFormed form node k s)
+  unfolding readFormed
   content-numbers k s h =
       got-if _ (bare k) _ _ (λ _. (tt, h))
       λ _. got-if _ (eqb k Kind.Array) _ _ (λ _. got-bind _ _ (node s) _ (g s h) λ i r p q. (p, q))
       λ _. got-if _ (eqb k Kind.Map) _ _ (λ _. got-bind _ _ (node s) _ (g s h) λ i r p q. (p, q))
       λ _. got-if _ (eqb k Kind.Union) _ _
       (λ _. got-bind _ _ (readList node s) _ (list-got _ node g s h)
-      λ vs r p q. got-bind _ _ (readList readLead r) _ (list-got _ readLead lead-numbers r q)
-      λ ks t w u. got-bind _ _ (readList (readNumber 2) t) _ (list-got _ (readNumber 2) (number-got 2) t u)
-      λ ns x y z. (((w .0, w .1, y .0, y .1), variant-numbers vs (p .0)), z))
+      λ vs r p q. got-bind _ _ (readTables form vs r) _ (tables-got form vs (p .1) r q)
+      λ ts t w u. ((w, variant-numbers vs (p .0)), u))
       λ _. got-if _ (eqb k Kind.Record) _ _
       (λ _. got-bind _ _ (readList (readField node) s) _ (list-got _ (readField node) read-field-numbers s h) λ fs r p q. (field-numbers fs (p .0), q))
       λ _. got-if _ (eqb k Kind.Enum) _ _ (λ _. got-bind _ _ (readSymbols s) _ (symbols-got s h) λ e r p q. (tt, q))
@@ -188,11 +192,11 @@ module _ (node : List ℕ → Read Schema) (g : (s : List ℕ) → T (allBytes s
       λ _. got-if _ (eqb k Kind.Uuid) _ _ (λ _. got-bind _ _ (readUuidForm s) _ (form-numbers s h) λ f r p q. (p, q))
       λ _. got-if _ (eqb k Kind.Duration) _ _ (λ _. got-bind _ _ (readNumber 2 s) _ (number-got 2 s h) λ n r p q. (p, q)) (λ _. tt)
 
-schema-numbers : (d : ℕ) (s : List ℕ) → T (allBytes s) → Got HeldNumbers (readSchema d s)
-unfolding readSchema allBytes
-schema-numbers zero s h = tt
-schema-numbers (suc d) [] h = tt
-schema-numbers (suc d) (k ∷ s) h = content-numbers (readSchema d) (λ t b. schema-numbers d t b) k s (and-r (ltb k 256) (allBytes s) h)
+schema-numbers : (u : Under) (d : ℕ) (s : List ℕ) → T (allBytes s) → Got HeldNumbers (readSchemaUnder u d s)
+unfolding readSchemaUnder allBytes
+schema-numbers u zero s h = tt
+schema-numbers u (suc d) [] h = tt
+schema-numbers u (suc d) (k ∷ s) h = content-numbers (u .form) (readSchemaUnder u d) (λ t b. schema-numbers u d t b) k s (and-r (ltb k 256) (allBytes s) h)
 
 -- ---- whole frames
 
@@ -204,4 +208,4 @@ module _ (s : List ℕ) (t : Schema) (h : T (allBytes s)) (e : decodeSchema s �
 
   pub numbers-held : HeldNumbers t
   unfolding decodeSchema
-  numbers-held = subst (λ (o : Option Schema). Found HeldNumbers o) e (whole-got HeldNumbers (readSchema 16) s (schema-numbers 16 s h))
+  numbers-held = subst (λ (o : Option Schema). Found HeldNumbers o) e (whole-got HeldNumbers (readSchema 16) s (schema-numbers asWritten 16 s h))

@@ -1,5 +1,5 @@
 -- A schema tree that a frame can hold, written and read again, is the tree.
-use Prim.Native.Nat.{ℕ, zero, suc, _^_, _<_}
+use Prim.Native.Nat.{ℕ, zero, suc}
 use mathlib.Core.Path.{_≡_, refl, ap}
 use mathlib.Core.List.{List, [], _∷_, _++_, append-assoc, append-nil}
 use mathlib.Core.Option.{Option, none, some}
@@ -14,15 +14,12 @@ use Rattle.frame.specs.Kind
 use Rattle.frame.specs.Tree.{Value, Schema, Fields, Variants, UuidForm, noFields, field, noVariants, variant}
 use Rattle.frame.specs.Readers.{readMany, readList, readOption}
 use Rattle.frame.specs.ValueFrame.{readValue, writeText, encodeValue}
-use Rattle.frame.specs.SchemaFrame.{Field, fieldsOf, variantsOf, readField, readLead, readUuidForm, readSymbols, bare, readSchemaContent, readSchema, decodeSchema, writeOption, writeAll, writeList, writeLead, writeUuidForm, countFields, encodeSchema, encodeFields, encodeVariants}
+use Rattle.frame.specs.SchemaFrame.{Field, fieldsOf, variantsOf, readField, readLead, readTables, readUuidForm, readSymbols, bare, readFormed, readSchemaContent, readSchemaUnder, readSchema, decodeSchema, writeOption, writeAll, writeList, writeLead, writeUuidForm, countFields, encodeSchema, encodeFields, encodeVariants}
 use Rattle.frame.specs.Sound.{countVariants}
-use Rattle.frame.proofs.ReadHeld.{Each, HeldText, HeldDefault, HeldSchema, HeldFields, HeldVariants}
+use Rattle.frame.proofs.ReadHeld.{Each, HeldNumber, HeldLead, HeldTables, HeldText, HeldDefault, HeldSchema, HeldFields, HeldVariants}
 use Rattle.frame.proofs.RoundTrip.{textHeld, readNumber-back, readFlag-back, readText-back, list-back, many-back, value-back, whole-back}
 
 -- ---- what HeldSchema leaves: every size, precision and scale, and all that a union's tables hold, is in range
-
-abbrev pub HeldNumber : ℕ → ℕ → Type 0
-HeldNumber w n = n < 256 ^ w
 
 abbrev pub HeldSize : Option ℕ → Type 0
 HeldSize none = Unit
@@ -32,13 +29,6 @@ abbrev pub HeldForm : UuidForm → Type 0
 HeldForm UuidForm.bytes = Unit
 HeldForm UuidForm.string = Unit
 HeldForm (UuidForm.fixed n) = HeldNumber 2 n
-
--- kind and position
-abbrev pub HeldLead : ℕ × ℕ → Type 0
-HeldLead e = HeldNumber 1 (e .0) × HeldNumber 2 (e .1)
-
-abbrev pub HeldTables : List (ℕ × ℕ) → List ℕ → Type 0
-HeldTables ks ns = Each HeldLead ks × T (ltb (length ks) 65536) × Each (HeldNumber 2) ns × T (ltb (length ns) 65536)
 
 abbrev mutual
   pub HeldNumbers : Schema → Type 0
@@ -138,12 +128,12 @@ apart₃ a b c r = simp append-assoc
 
 module _ (node : List ℕ → Read Schema) where
   plain-back : (k : ℕ) (r : List ℕ) → T (bare k) → readSchemaContent node k r ≡ some (Schema.Plain k, r)
-  unfolding readSchemaContent
+  unfolding readFormed
   plain-back k r h = rw (is-true (bare k) h)
 
   decimal-back : (p c : ℕ) (n : Option ℕ) (r : List ℕ) → HeldNumber 4 p → HeldNumber 4 c → HeldSize n
       → readSchemaContent node Kind.Decimal (bytesOf 4 p ++ bytesOf 4 c ++ writeOption (bytesOf 2) n ++ r) ≡ some (Schema.Decimal p c n, r)
-  unfolding readSchemaContent _>>=_
+  unfolding readFormed _>>=_
   decimal-back p c n r h g e = rw (
     apart₃ (bytesOf 4 p) (bytesOf 4 c) (writeOption (bytesOf 2) n) r,
     readNumber-back 4 p (bytesOf 4 c ++ (writeOption (bytesOf 2) n ++ r)) h,
@@ -152,39 +142,39 @@ module _ (node : List ℕ → Read Schema) where
   )
 
   sized-back : (n : ℕ) (r : List ℕ) → HeldNumber 2 n → readSchemaContent node Kind.Fixed (bytesOf 2 n ++ r) ≡ some (Schema.Fixed n, r)
-  unfolding readSchemaContent _>>=_
+  unfolding readFormed _>>=_
   sized-back n r h = rw (readNumber-back 2 n r h)
 
   duration-back : (n : ℕ) (r : List ℕ) → HeldNumber 2 n → readSchemaContent node Kind.Duration (bytesOf 2 n ++ r) ≡ some (Schema.Duration n, r)
-  unfolding readSchemaContent _>>=_
+  unfolding readFormed _>>=_
   duration-back n r h = rw (readNumber-back 2 n r h)
 
   uuid-back : (f : UuidForm) (r : List ℕ) → HeldForm f → readSchemaContent node Kind.Uuid (writeUuidForm f ++ r) ≡ some (Schema.Uuid f, r)
-  unfolding readSchemaContent _>>=_
+  unfolding readFormed _>>=_
   uuid-back f r h = rw (form-back f h r)
 
   enum-back : (ss : List Text) (t : Option Text) (r : List ℕ) → Each (λ s. T (textHeld s)) ss → T (ltb (length ss) 65536) → HeldText t
       → readSchemaContent node Kind.Enum (writeList writeText ss ++ writeOption writeText t ++ r) ≡ some (Schema.Enum ss t, r)
-  unfolding readSchemaContent readSymbols _>>=_
+  unfolding readFormed readSymbols _>>=_
   enum-back ss t r h l d = rw (append-assoc, each-back (λ s. T (textHeld s)) readText writeText text-back ss h l (writeOption writeText t ++ r), default-text-back t d r)
 
   array-back : (s : Schema) (b r : List ℕ) → node (b ++ r) ≡ some (s, r) → readSchemaContent node Kind.Array (b ++ r) ≡ some (Schema.Array s, r)
-  unfolding readSchemaContent _>>=_
+  unfolding readFormed _>>=_
   array-back s b r e = rw e
 
   map-back : (s : Schema) (b r : List ℕ) → node (b ++ r) ≡ some (s, r) → readSchemaContent node Kind.Map (b ++ r) ≡ some (Schema.Map s, r)
-  unfolding readSchemaContent _>>=_
+  unfolding readFormed _>>=_
   map-back s b r e = rw e
 
   record-back : (fs : Fields) (b r : List ℕ) → T (ltb (countFields fs) 65536) → readMany (readField node) (countFields fs) (b ++ r) ≡ some (fieldList fs, r)
       → readSchemaContent node Kind.Record (bytesOf 2 (countFields fs) ++ b ++ r) ≡ some (Schema.Record fs, r)
-  unfolding readSchemaContent _>>=_
+  unfolding readFormed _>>=_
   record-back fs b r h e = rw (list-back (readField node) (countFields fs) b r (fieldList fs) h e, fieldsOf-fieldList)
 
   union-back : (vs : Variants) (ks : List (ℕ × ℕ)) (ns : List ℕ) (b r : List ℕ) → T (ltb (countVariants vs) 65536) → HeldTables ks ns
       → ((t : List ℕ) → readMany node (countVariants vs) (b ++ t) ≡ some (variantList vs, t))
       → readSchemaContent node Kind.Union (bytesOf 2 (countVariants vs) ++ b ++ writeList writeLead ks ++ writeList (bytesOf 2) ns ++ r) ≡ some (Schema.Union vs ks ns, r)
-  unfolding readSchemaContent _>>=_
+  unfolding readFormed readTables _>>=_
   union-back vs ks ns b r h t e =
       let k : List ℕ = writeList writeLead ks in
       let n : List ℕ = writeList (bytesOf 2) ns in
@@ -207,7 +197,7 @@ module _ (node : List ℕ → Read Schema) where
   )
 
 mutual
-  unfolding encodeSchema readSchema readMany countFields countVariants variantList fieldList
+  unfolding encodeSchema readSchemaUnder readMany countFields countVariants variantList fieldList
 
   pub schema-back : (s : Schema) (d : ℕ) → HeldSchema s d → HeldNumbers s → (r : List ℕ) → readSchema d (encodeSchema s ++ r) ≡ some (s, r)
   schema-back (Schema.Plain k) zero h g r = absurd h

@@ -19,7 +19,7 @@ use Rattle.text.specs.Measured.{Reads}
 use Rattle.text.proofs.ReadLaws.{readNumber-some, readNumber-none}
 use Rattle.frame.specs.Tree.{Value, Schema, UuidForm, peel}
 use Rattle.frame.specs.Readers.{readOption}
-use Rattle.frame.specs.SchemaFrame.{readSymbols, readSchemaContent, readSchema}
+use Rattle.frame.specs.SchemaFrame.{readSymbols, readFormed, readSchemaContent, readSchema}
 use Rattle.frame.proofs.Reading.{map-inv, not-reads, option-empty, option-zero, option-one-none, option-one-some, option-other}
 use Rattle.frame.proofs.SchemaNodes.{schema-opened}
 use Rattle.buffer.specs.Built.{Wrote}
@@ -50,12 +50,12 @@ module _ (d : ℕ) (s : List ℕ) (p : Reads (readSchema d s)) where
   plain-tree k e h g = schema-opened d s p k e ∙ go (leb k 7) refl
     where
       go : (b : Bool) → leb k 7 ≡ b → readSchemaContent (readSchema (d - 1)) k (drop 1 s) ≡ some (Schema.Plain k, drop 1 s)
-      go true q = plain-low _ _ k (omega (arith, leb-true k 7 q))
-      go false q = plain-high _ _ k (omega (arith, g (leb-false k 7 q))) (omega arith)
+      go true q = plain-low _ _ _ k (omega (arith, leb-true k 7 q))
+      go false q = plain-high _ _ _ k (omega (arith, g (leb-false k 7 q))) (omega arith)
 
   -- every kind byte is at most Duration's
   kind-small : getD s 0 0 ≤ 25
-  kind-small = by-contra (getD s 0 0) 25 (λ h. never _ refl (kind-past _ _ _ h))
+  kind-small = by-contra (getD s 0 0) 25 (λ h. never _ refl (kind-past _ _ _ _ h))
 
   pub kind-below : (getD s 0 0 ≡ 25 → ⊥) → getD s 0 0 ≤ 24
   kind-below f = by-contra (getD s 0 0) 24 (λ h. f (omega (arith, kind-small)))
@@ -65,26 +65,26 @@ module _ (d : ℕ) (s : List ℕ) (p : Reads (readSchema d s)) where
   module _ (e : getD s 0 0 ≡ 13) where
     pub fixed-long : 3 ≤ length s
     fixed-long =
-        let h : 2 ≤ length (drop 1 s) = by-contra _ _ (λ h. never 13 e (fixed-none _ _ h)) in
+        let h : 2 ≤ length (drop 1 s) = by-contra _ _ (λ h. never 13 e (fixed-none _ _ _ h)) in
         omega (arith, length-drop 1 s)
 
     fixed-tree : readSchema d s ≡ some (Schema.Fixed (numberAt s 1 2), drop 2 (drop 1 s))
-    fixed-tree = schema-opened d s p 13 e ∙ fixed-got _ _ (omega (arith, length-drop 1 s, fixed-long))
+    fixed-tree = schema-opened d s p 13 e ∙ fixed-got _ _ _ (omega (arith, length-drop 1 s, fixed-long))
 
   -- ---- Duration
 
   module _ (e : getD s 0 0 ≡ 25) where
     duration-tree : readSchema d s ≡ some (Schema.Duration (numberAt s 1 2), drop 2 (drop 1 s))
-    duration-tree = schema-opened d s p 25 e ∙ duration-got _ _ (by-contra _ _ (λ h. never 25 e (duration-none _ _ h)))
+    duration-tree = schema-opened d s p 25 e ∙ duration-got _ _ _ (by-contra _ _ (λ h. never 25 e (duration-none _ _ _ h)))
 
   -- ---- Decimal
 
   module _ (e : getD s 0 0 ≡ 14) where
     decimal-head : 8 ≤ length (drop 1 s)
-    decimal-head = by-contra _ _ (λ h. never 14 e (decimal-none _ _ h))
+    decimal-head = by-contra _ _ (λ h. never 14 e (decimal-none _ _ _ h))
 
     option-never : readOption (readNumber 2) (drop 9 s) ≡ none → ⊥
-    option-never g = never 14 e (decimal-later _ _ decimal-head (ap (readOption (readNumber 2)) (drop-drop 8 1 s) ∙ g))
+    option-never g = never 14 e (decimal-later _ _ _ decimal-head (ap (readOption (readNumber 2)) (drop-drop 8 1 s) ∙ g))
 
     decimal-flag : 1 ≤ length (drop 9 s)
     decimal-flag = by-contra _ _ (λ h. option-never (option-empty _ _ (omega arith)))
@@ -95,7 +95,7 @@ module _ (d : ℕ) (s : List ℕ) (p : Reads (readSchema d s)) where
     decimal-tree : (n : Option ℕ) (m : ℕ) → readOption (readNumber 2) (drop 9 s) ≡ some (n, drop m (drop 9 s)) → readSchema d s ≡ some (Schema.Decimal (numberAt s 1 4) (numberAt s 5 4) n, drop (8 + m) (drop 1 s))
     decimal-tree n m g =
         schema-opened d s p 14 e
-        ∙ decimal-got _ _ decimal-head n m (ap (readOption (readNumber 2)) (drop-drop 8 1 s) ∙ g ∙ ap (λ u. some (n, drop m u)) (sym (drop-drop 8 1 s)))
+        ∙ decimal-got _ _ _ decimal-head n m (ap (readOption (readNumber 2)) (drop-drop 8 1 s) ∙ g ∙ ap (λ u. some (n, drop m u)) (sym (drop-drop 8 1 s)))
         ∙ ap (λ u. some (Schema.Decimal (numberAt s 1 4) (bigEndian (take 4 u)) n, drop (8 + m) (drop 1 s))) (drop-drop 4 1 s)
 
     unsized-flag : (getD s 9 0 ≡ 1 → ⊥) → getD s 9 0 ≡ 0
@@ -118,35 +118,35 @@ module _ (d : ℕ) (s : List ℕ) (p : Reads (readSchema d s)) where
 
   module _ (e : getD s 0 0 ≡ 15) where
     form-head : 1 ≤ length (drop 1 s)
-    form-head = by-contra _ _ (λ h. never 15 e (uuid-empty _ _ (omega arith)))
+    form-head = by-contra _ _ (λ h. never 15 e (uuid-empty _ _ _ (omega arith)))
 
     pub uuid-long : 1 < length s
     uuid-long = omega (arith, length-drop 1 s, form-head)
 
     bytes-tree : getD s 1 0 ≡ 0 → readSchema d s ≡ some (Schema.Uuid UuidForm.bytes, drop 1 (drop 1 s))
-    bytes-tree h = schema-opened d s p 15 e ∙ uuid-bytes _ _ form-head (byte-at 1 ∙ h)
+    bytes-tree h = schema-opened d s p 15 e ∙ uuid-bytes _ _ _ form-head (byte-at 1 ∙ h)
 
     string-tree : getD s 1 0 ≡ 1 → readSchema d s ≡ some (Schema.Uuid UuidForm.string, drop 1 (drop 1 s))
-    string-tree h = schema-opened d s p 15 e ∙ uuid-string _ _ form-head (byte-at 1 ∙ h)
+    string-tree h = schema-opened d s p 15 e ∙ uuid-string _ _ _ form-head (byte-at 1 ∙ h)
 
     module _ (f : getD s 1 0 ≡ 0 → ⊥) (g : getD s 1 0 ≡ 1 → ⊥) where
       form-two : getD (drop 1 s) 0 0 ≡ 2
-      form-two = omega (arith, by-contra 2 (getD s 1 0) (λ h. omega arith), by-contra (getD s 1 0) 2 (λ h. never 15 e (uuid-other _ _ form-head (λ q. omega (arith, byte-at 1)) (λ q. omega (arith, byte-at 1)) (λ q. omega (arith, byte-at 1)))), byte-at 1)
+      form-two = omega (arith, by-contra 2 (getD s 1 0) (λ h. omega arith), by-contra (getD s 1 0) 2 (λ h. never 15 e (uuid-other _ _ _ form-head (λ q. omega (arith, byte-at 1)) (λ q. omega (arith, byte-at 1)) (λ q. omega (arith, byte-at 1)))), byte-at 1)
 
       form-size : 3 ≤ length (drop 1 s)
-      form-size = by-contra _ _ (λ h. never 15 e (uuid-short _ _ form-head form-two h))
+      form-size = by-contra _ _ (λ h. never 15 e (uuid-short _ _ _ form-head form-two h))
 
       pub uuid-fixed-long : 4 ≤ length s
       uuid-fixed-long = omega (arith, length-drop 1 s, form-size)
 
       uuid-fixed-tree : readSchema d s ≡ some (Schema.Uuid (UuidForm.fixed (numberAt s 2 2)), drop 3 (drop 1 s))
-      uuid-fixed-tree = schema-opened d s p 15 e ∙ uuid-fixed _ _ form-size form-two ∙ ap (λ u. some (Schema.Uuid (UuidForm.fixed (bigEndian (take 2 u))), drop 3 (drop 1 s))) (drop-drop 1 1 s)
+      uuid-fixed-tree = schema-opened d s p 15 e ∙ uuid-fixed _ _ _ form-size form-two ∙ ap (λ u. some (Schema.Uuid (UuidForm.fixed (bigEndian (take 2 u))), drop 3 (drop 1 s))) (drop-drop 1 1 s)
 
   -- ---- Enum
 
   module _ (e : getD s 0 0 ≡ 12) where
     enum-tree : (t : Schema) (r : List ℕ) → readSchema d s ≡ some (t, r) → (ss : List Text) × ((q : Option Text) × (t ≡ Schema.Enum ss q))
-    unfolding readSchemaContent
+    unfolding readFormed
     enum-tree t r g =
         let i = map-inv (λ q. Schema.Enum (q .0) (q .1)) (readSymbols (drop 1 s)) t r (sym (schema-opened d s p 12 e) ∙ g) in
         (i .0 .0, (i .0 .1, i .1 .1))

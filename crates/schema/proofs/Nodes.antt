@@ -8,12 +8,12 @@ use native.Mathlib.Omega.{arith}
 use lib.ListN.{length, drop, getD, length-drop}
 use lib.Seq.{drop-drop}
 use Rattle.text.specs.Text.{Text}
-use Rattle.text.specs.Read.{Read, _>>=_, readNumber, readText}
+use Rattle.text.specs.Read.{Read, _>>=_, readText}
 use Rattle.frame.specs.Tree.{Value, Schema}
 use Rattle.frame.specs.Readers.{readList, readOption}
 use Rattle.frame.specs.ValueFrame.{readValue}
-use Rattle.frame.specs.SchemaFrame.{bare, fieldsOf, variantsOf, readField, readLead, readSymbols, readSchemaContent, readSchema}
-use Rattle.frame.specs.Sound.{schemaSound, kindsSound, positionsSound}
+use Rattle.frame.specs.SchemaFrame.{Form, Under, Tables, bare, fieldsOf, variantsOf, readField, readTables, readSymbols, readFormed, readSchemaUnder}
+use Rattle.frame.specs.Sound.{schemaSound}
 use Rattle.frame.specs.Checks.{Checks}
 use Rattle.frame.specs.declared.Checked.the-variants.{Of, Broken}
 use Rattle.text.specs.Measured.{Measured}
@@ -26,67 +26,63 @@ use Rattle.schema.specs.Parts.{fieldSound}
 
 -- ---- a kind without content
 
-pub bare-content : (node : List ℕ → Read Schema) (k : ℕ) (s : List ℕ) → bare k ≡ true → readSchemaContent node k s ≡ some (Schema.Plain k, s)
-unfolding readSchemaContent
-bare-content node k s e = rw e refl
+pub bare-content : (form : Form) (node : List ℕ → Read Schema) (k : ℕ) (s : List ℕ) → bare k ≡ true → readFormed form node k s ≡ some (Schema.Plain k, s)
+unfolding readFormed
+bare-content form node k s e = rw e refl
 
-pub bare-checks : (d : ℕ) (s : List ℕ) → (d ≡ 0 → ⊥) → (length s ≡ 0 → ⊥) → bare (getD s 0 0) ≡ true → Checks schemaSound (readSchema d s) s (Of 1 true)
+pub bare-checks : (u : Under) (d : ℕ) (s : List ℕ) → (d ≡ 0 → ⊥) → (length s ≡ 0 → ⊥) → bare (getD s 0 0) ≡ true → Checks schemaSound (readSchemaUnder u d s) s (Of 1 true)
 unfolding Checks schemaSound
-bare-checks d s f g e = (omega arith, (Schema.Plain (getD s 0 0), (schema-node d s f g ∙ bare-content _ _ _ e, refl)))
+bare-checks u d s f g e = (omega arith, (Schema.Plain (getD s 0 0), (schema-node u d s f g ∙ bare-content _ _ _ _ e, refl)))
 
 -- ---- the answer for a node from that for its content
 
-pub node-checks : (d : ℕ) (s : List ℕ) (m : ℕ) (b : Bool) → (d ≡ 0 → ⊥) → (length s ≡ 0 → ⊥) → Checks schemaSound (readSchemaContent (readSchema (d - 1)) (getD s 0 0) (drop 1 s)) (drop 1 s) (Of m b)
-    → Checks schemaSound (readSchema d s) s (Of (1 + m) b)
+pub node-checks : (u : Under) (d : ℕ) (s : List ℕ) (m : ℕ) (b : Bool) → (d ≡ 0 → ⊥) → (length s ≡ 0 → ⊥) → Checks schemaSound (readFormed (u .form) (readSchemaUnder u (d - 1)) (getD s 0 0) (drop 1 s)) (drop 1 s) (Of m b)
+    → Checks schemaSound (readSchemaUnder u d s) s (Of (1 + m) b)
 unfolding Checks
-node-checks d s m b f g w = (omega (arith, w .0, length-drop 1 s), (w .1 .0, (schema-node d s f g ∙ w .1 .1 .0 ∙ ap (λ t. some (w .1 .0, t)) (drop-drop m 1 s), w .1 .1 .1)))
+node-checks u d s m b f g w = (omega (arith, w .0, length-drop 1 s), (w .1 .0, (schema-node u d s f g ∙ w .1 .1 .0 ∙ ap (λ t. some (w .1 .0, t)) (drop-drop m 1 s), w .1 .1 .1)))
 
 -- ---- contents by their parts
 
-module _ (node : List ℕ → Read Schema) (s : List ℕ) where
-  pub array-content : readSchemaContent node 8 s ≡ mapRead Schema.Array (node s)
-  unfolding readSchemaContent
+module _ (form : Form) (node : List ℕ → Read Schema) (s : List ℕ) where
+  pub array-content : readFormed form node 8 s ≡ mapRead Schema.Array (node s)
+  unfolding readFormed
   array-content = refl
 
-  pub map-content : readSchemaContent node 9 s ≡ mapRead Schema.Map (node s)
-  unfolding readSchemaContent
+  pub map-content : readFormed form node 9 s ≡ mapRead Schema.Map (node s)
+  unfolding readFormed
   map-content = refl
 
-  pub record-content : readSchemaContent node 11 s ≡ mapRead (λ fs. Schema.Record (fieldsOf fs)) (readList (readField node) s)
-  unfolding readSchemaContent
+  pub record-content : readFormed form node 11 s ≡ mapRead (λ fs. Schema.Record (fieldsOf fs)) (readList (readField node) s)
+  unfolding readFormed
   record-content = refl
 
-  pub enum-content : readSchemaContent node 12 s ≡ mapRead (λ e. Schema.Enum (e .0) (e .1)) (readSymbols s)
-  unfolding readSchemaContent
+  pub enum-content : readFormed form node 12 s ≡ mapRead (λ e. Schema.Enum (e .0) (e .1)) (readSymbols s)
+  unfolding readFormed
   enum-content = refl
 
-  pub record-none : readList (readField node) s ≡ none → readSchemaContent node 11 s ≡ none
+  pub record-none : readList (readField node) s ≡ none → readFormed form node 11 s ≡ none
   record-none e = record-content ∙ bind-none _ _ e
 
   -- ---- unions
 
   module _ (a : ℕ) (vs : List Schema) (e : readList node s ≡ some (vs, drop a s)) where
-    pub union-none₂ : readList readLead (drop a s) ≡ none → readSchemaContent node 10 s ≡ none
-    unfolding readSchemaContent _>>=_
-    union-none₂ g = rw (e, g)
+    union-open : readFormed form node 10 s ≡ mapRead (λ ts. Schema.Union (variantsOf vs) (ts .0) (ts .1)) (readTables form vs (drop a s))
+    unfolding readFormed _>>=_
+    union-open = rw e
 
-    module _ (b : ℕ) (ks : List (ℕ × ℕ)) (g : readList readLead (drop a s) ≡ some (ks, drop b (drop a s))) where
-      union-open : readSchemaContent node 10 s ≡ mapRead (λ ns. Schema.Union (variantsOf vs) ks ns) (readList (readNumber 2) (drop (a + b) s))
-      unfolding readSchemaContent _>>=_
-      union-open = rw (e, g, drop-drop b a s)
+    pub union-none₂ : readTables form vs (drop a s) ≡ none → readFormed form node 10 s ≡ none
+    union-none₂ g = union-open ∙ bind-none _ _ g
 
-      pub union-none₃ : readList (readNumber 2) (drop (a + b) s) ≡ none → readSchemaContent node 10 s ≡ none
-      union-none₃ h = union-open ∙ bind-none _ _ h
+    pub union-got : (b : ℕ) (ts : Tables) → readTables form vs (drop a s) ≡ some (ts, drop b (drop a s)) → readFormed form node 10 s ≡ some (Schema.Union (variantsOf vs) (ts .0) (ts .1), drop (a + b) s)
+    union-got b ts g = union-open ∙ bind-some _ _ ts (drop b (drop a s)) g ∙ ap (λ t. some (Schema.Union (variantsOf vs) (ts .0) (ts .1), t)) (drop-drop b a s)
 
-      pub union-got : (d : ℕ) (ns : List ℕ) → readList (readNumber 2) (drop (a + b) s) ≡ some (ns, drop d (drop (a + b) s)) → readSchemaContent node 10 s ≡ some (Schema.Union (variantsOf vs) ks ns, drop (a + b + d) s)
-      union-got d ns h = union-open ∙ bind-some _ _ ns (drop d (drop (a + b) s)) h ∙ ap (λ t. some (Schema.Union (variantsOf vs) ks ns, t)) (drop-drop d (a + b) s)
-
-  pub union-none : readList node s ≡ none → readSchemaContent node 10 s ≡ none
-  unfolding readSchemaContent _>>=_
+  pub union-none : readList node s ≡ none → readFormed form node 10 s ≡ none
+  unfolding readFormed _>>=_
   union-none e = rw e
 
-  -- ---- fields
+-- ---- fields
 
+module _ (node : List ℕ → Read Schema) (s : List ℕ) where
   pub field-none : readText s ≡ none → readField node s ≡ none
   unfolding readField _>>=_
   field-none e = rw e
@@ -107,22 +103,9 @@ module _ (node : List ℕ → Read Schema) (s : List ℕ) where
       pub field-got : (m : ℕ) (f : Schema) → node (drop (a + b) s) ≡ some (f, drop m (drop (a + b) s)) → readField node s ≡ some ((name, d, f), drop (a + b + m) s)
       field-got m f h = field-open ∙ bind-some _ _ f (drop m (drop (a + b) s)) h ∙ ap (λ t. some ((name, d, f), t)) (drop-drop m (a + b) s)
 
--- ---- unions and fields by the answers for their parts
+-- ---- fields by the answers for their parts
 
 module _ (node : List ℕ → Read Schema) (s : List ℕ) (a : ℕ) where
-  module _ (v : Measured (readList node s) s (len.Of a)) where
-    pub union-broken₂ : (count : ℕ) → Checks (kindsSound count 0) (readList readLead (drop a s)) (drop a s) Broken → readSchemaContent node 10 s ≡ none
-    union-broken₂ count w =
-        let q : Long (readList node s) s a = long _ _ a v in
-        union-none₂ node s a (q .what) (q .read) (checks-broken _ _ _ w)
-
-    module _ (count b : ℕ) (kinds : Bool) (w : Checks (kindsSound count 0) (readList readLead (drop a s)) (drop a s) (Of b kinds)) where
-      pub union-broken₃ : Checks (positionsSound count) (readList (readNumber 2) (drop (a + b) s)) (drop (a + b) s) Broken → readSchemaContent node 10 s ≡ none
-      union-broken₃ u =
-          let q : Long (readList node s) s a = long _ _ a v in
-          let r = held _ _ _ b kinds w in
-          union-none₃ node s a (q .what) (q .read) b (r .what) (r .read) (checks-broken _ _ _ u)
-
   module _ (v : Measured (readText s) s (len.Of a)) where
     pub field-broken₂ : Checks defaultAllowed (readOption (readValue 16) (drop a s)) (drop a s) Broken → readField node s ≡ none
     field-broken₂ w =

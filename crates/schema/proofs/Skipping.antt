@@ -15,12 +15,12 @@ use Rattle.text.specs.Measured.{Reads}
 use Rattle.frame.specs.Tree.{Schema}
 use Rattle.frame.specs.Readers.{readMany, readList, readOption}
 use Rattle.frame.specs.ValueFrame.{readValue}
-use Rattle.frame.specs.SchemaFrame.{bare, variantsOf, readField, readLead, readSymbols, readSchemaContent, readSchema}
+use Rattle.frame.specs.SchemaFrame.{Form, Under, bare, readField, readLead, readTables, readSymbols, readFormed, readSchemaUnder}
 use Rattle.frame.specs.Checks.{Spans}
 use Rattle.frame.proofs.Reading.{mapRead, reads-eq, reads-first, option-zero, option-one, option-long, option-is-one}
 use Rattle.frame.proofs.Measuring.{spans-some, spans-eq, spans-drop, spans-map, spans-after, reads-behind, number-spans, text-spans}
 use Rattle.frame.proofs.Counting.{list-many, reads-list}
-use Rattle.frame.proofs.SchemaNodes.{schema-there, schema-opened}
+use Rattle.frame.proofs.SchemaNodes.{schema-there-under, schema-opened-under}
 use Rattle.schema.proofs.Nodes.{bare-content, array-content, map-content, record-content, enum-content}
 
 -- ---- two and three things, one behind the other
@@ -121,90 +121,101 @@ module _ (s : List ℕ) (r : Reads (readSymbols s)) where
   unfolding readSymbols
   symbols-spans = two-spans (readList readText s) (readOption readText) (λ ss d. (ss, d)) s r
 
+-- ---- prepared tables: leads and positions
+
+module _ (vs : List Schema) (s : List ℕ) (r : Reads (readTables Form.prepared vs s)) where
+  pub tables-leads : Reads (readList readLead s)
+  unfolding readTables
+  tables-leads = two-first (readList readLead s) (readList (readNumber 2)) (λ ks ns. (ks, ns)) s r
+
+  pub tables-positions : (a : ℕ) → Spans (readList readLead s) s a → Reads (readList (readNumber 2) (drop a s))
+  unfolding readTables
+  tables-positions = two-second (readList readLead s) (readList (readNumber 2)) (λ ks ns. (ks, ns)) s r
+
+  -- whatever the variants are
+  pub tables-spans : (a b : ℕ) → Spans (readList readLead s) s a → Spans (readList (readNumber 2) (drop a s)) (drop a s) b → (ws : List Schema) → Spans (readTables Form.prepared ws s) s (a + b)
+  unfolding readTables
+  tables-spans a b w v ws = two-spans (readList readLead s) (readList (readNumber 2)) (λ ks ns. (ks, ns)) s r a b w v
+
 -- ---- the content of a node
 
 not-parent : (k j : ℕ) → (8 ≤ k → 11 < k) → 8 ≤ j → j ≤ 11 → k ≡ j → ⊥
 not-parent k j h l u e = let z = h (omega arith) in omega arith
 
--- a kind without child nodes has the same content whatever reads the children
-pub leaf-content : (node other : List ℕ → Read Schema) (k : ℕ) (s : List ℕ) → (8 ≤ k → 11 < k) → readSchemaContent node k s ≡ readSchemaContent other k s
-unfolding readSchemaContent
-leaf-content node other k s h =
+-- a kind without child nodes has the same content in each form and whatever reads the children
+pub leaf-content : (form other-form : Form) (node other : List ℕ → Read Schema) (k : ℕ) (s : List ℕ) → (8 ≤ k → 11 < k) → readFormed form node k s ≡ readFormed other-form other k s
+unfolding readFormed
+leaf-content form other-form node other k s h =
     rw (ne-eqb k 8 (not-parent k 8 h (omega arith) (omega arith)), ne-eqb k 9 (not-parent k 9 h (omega arith) (omega arith)), ne-eqb k 10 (not-parent k 10 h (omega arith) (omega arith)), ne-eqb k 11 (not-parent k 11 h (omega arith) (omega arith)))
 
-module _ (node : List ℕ → Read Schema) (s : List ℕ) where
-  module _ (r : Reads (readSchemaContent node 8 s)) where
+module _ (form : Form) (node : List ℕ → Read Schema) (s : List ℕ) where
+  module _ (r : Reads (readFormed form node 8 s)) where
     pub array-known : Reads (node s)
-    array-known = reads-first (node s) _ (reads-eq _ _ (array-content node s) r)
+    array-known = reads-first (node s) _ (reads-eq _ _ (array-content form node s) r)
 
-    pub array-spans : (n : ℕ) → Spans (node s) s n → Spans (readSchemaContent node 8 s) s n
-    array-spans n w = spans-eq _ _ s n (array-content node s) (spans-map Schema.Array (node s) s n w)
+    pub array-spans : (n : ℕ) → Spans (node s) s n → Spans (readFormed form node 8 s) s n
+    array-spans n w = spans-eq _ _ s n (array-content form node s) (spans-map Schema.Array (node s) s n w)
 
-  module _ (r : Reads (readSchemaContent node 9 s)) where
+  module _ (r : Reads (readFormed form node 9 s)) where
     pub map-known : Reads (node s)
-    map-known = reads-first (node s) _ (reads-eq _ _ (map-content node s) r)
+    map-known = reads-first (node s) _ (reads-eq _ _ (map-content form node s) r)
 
-    pub map-spans : (n : ℕ) → Spans (node s) s n → Spans (readSchemaContent node 9 s) s n
-    map-spans n w = spans-eq _ _ s n (map-content node s) (spans-map Schema.Map (node s) s n w)
+    pub map-spans : (n : ℕ) → Spans (node s) s n → Spans (readFormed form node 9 s) s n
+    map-spans n w = spans-eq _ _ s n (map-content form node s) (spans-map Schema.Map (node s) s n w)
 
-  module _ (r : Reads (readSchemaContent node 11 s)) where
+  module _ (r : Reads (readFormed form node 11 s)) where
     pub record-known : Reads (readList (readField node) s)
-    record-known = reads-first (readList (readField node) s) _ (reads-eq _ _ (record-content node s) r)
+    record-known = reads-first (readList (readField node) s) _ (reads-eq _ _ (record-content form node s) r)
 
-    pub record-spans : (n : ℕ) → Spans (readList (readField node) s) s n → Spans (readSchemaContent node 11 s) s n
-    record-spans n w = spans-eq _ _ s n (record-content node s) (spans-map _ (readList (readField node) s) s n w)
+    pub record-spans : (n : ℕ) → Spans (readList (readField node) s) s n → Spans (readFormed form node 11 s) s n
+    record-spans n w = spans-eq _ _ s n (record-content form node s) (spans-map _ (readList (readField node) s) s n w)
 
-  module _ (r : Reads (readSchemaContent node 10 s)) where
+  module _ (r : Reads (readFormed form node 10 s)) where
     pub union-variants : Reads (readList node s)
-    unfolding readSchemaContent
-    union-variants = three-first (readList node s) (readList readLead) (readList (readNumber 2)) (λ vs ks ns. Schema.Union (variantsOf vs) ks ns) s r
+    unfolding readFormed
+    union-variants = reads-first (readList node s) _ r
 
-    pub union-leads : (a : ℕ) → Spans (readList node s) s a → Reads (readList readLead (drop a s))
-    unfolding readSchemaContent
-    union-leads = three-second (readList node s) (readList readLead) (readList (readNumber 2)) (λ vs ks ns. Schema.Union (variantsOf vs) ks ns) s r
+    pub union-tables : (a : ℕ) → Spans (readList node s) s a → (vs : List Schema) × Reads (readTables form vs (drop a s))
+    unfolding readFormed
+    union-tables a w = let q = reads-behind (readList node s) _ s a w r in (q .0, reads-first (readTables form (q .0) (drop a s)) _ (q .1))
 
-    pub union-positions : (a : ℕ) → Spans (readList node s) s a → (b : ℕ) → Spans (readList readLead (drop a s)) (drop a s) b → Reads (readList (readNumber 2) (drop (a + b) s))
-    unfolding readSchemaContent
-    union-positions = three-third (readList node s) (readList readLead) (readList (readNumber 2)) (λ vs ks ns. Schema.Union (variantsOf vs) ks ns) s r
+    pub union-spans : (a b : ℕ) → Spans (readList node s) s a → ((vs : List Schema) → Spans (readTables form vs (drop a s)) (drop a s) b) → Spans (readFormed form node 10 s) s (a + b)
+    unfolding readFormed
+    union-spans a b w v = spans-after (readList node s) _ s a b w (λ vs. spans-map _ (readTables form vs (drop a s)) (drop a s) b (v vs))
 
-    pub union-spans : (a : ℕ) → Spans (readList node s) s a → (b : ℕ) → Spans (readList readLead (drop a s)) (drop a s) b → (c : ℕ) → Spans (readList (readNumber 2) (drop (a + b) s)) (drop (a + b) s) c
-        → Spans (readSchemaContent node 10 s) s (a + b + c)
-    unfolding readSchemaContent
-    union-spans = three-spans (readList node s) (readList readLead) (readList (readNumber 2)) (λ vs ks ns. Schema.Union (variantsOf vs) ks ns) s r
-
-  module _ (r : Reads (readSchemaContent node 12 s)) where
+  module _ (r : Reads (readFormed form node 12 s)) where
     pub enum-known : Reads (readSymbols s)
-    enum-known = reads-first (readSymbols s) _ (reads-eq _ _ (enum-content node s) r)
+    enum-known = reads-first (readSymbols s) _ (reads-eq _ _ (enum-content form node s) r)
 
-    pub enum-spans : (n : ℕ) → Spans (readSymbols s) s n → Spans (readSchemaContent node 12 s) s n
-    enum-spans n w = spans-eq _ _ s n (enum-content node s) (spans-map _ (readSymbols s) s n w)
+    pub enum-spans : (n : ℕ) → Spans (readSymbols s) s n → Spans (readFormed form node 12 s) s n
+    enum-spans n w = spans-eq _ _ s n (enum-content form node s) (spans-map _ (readSymbols s) s n w)
 
-  module _ (r : Reads (readField node s)) where
-    pub field-text : Reads (readText s)
-    unfolding readField
-    field-text = three-first (readText s) (readOption (readValue 16)) node (λ name d f. (name, d, f)) s r
+module _ (node : List ℕ → Read Schema) (s : List ℕ) (r : Reads (readField node s)) where
+  pub field-text : Reads (readText s)
+  unfolding readField
+  field-text = three-first (readText s) (readOption (readValue 16)) node (λ name d f. (name, d, f)) s r
 
-    pub field-default : (a : ℕ) → Spans (readText s) s a → Reads (readOption (readValue 16) (drop a s))
-    unfolding readField
-    field-default = three-second (readText s) (readOption (readValue 16)) node (λ name d f. (name, d, f)) s r
+  pub field-default : (a : ℕ) → Spans (readText s) s a → Reads (readOption (readValue 16) (drop a s))
+  unfolding readField
+  field-default = three-second (readText s) (readOption (readValue 16)) node (λ name d f. (name, d, f)) s r
 
-    pub field-schema : (a : ℕ) → Spans (readText s) s a → (b : ℕ) → Spans (readOption (readValue 16) (drop a s)) (drop a s) b → Reads (node (drop (a + b) s))
-    unfolding readField
-    field-schema = three-third (readText s) (readOption (readValue 16)) node (λ name d f. (name, d, f)) s r
+  pub field-schema : (a : ℕ) → Spans (readText s) s a → (b : ℕ) → Spans (readOption (readValue 16) (drop a s)) (drop a s) b → Reads (node (drop (a + b) s))
+  unfolding readField
+  field-schema = three-third (readText s) (readOption (readValue 16)) node (λ name d f. (name, d, f)) s r
 
-    pub field-spans : (a : ℕ) → Spans (readText s) s a → (b : ℕ) → Spans (readOption (readValue 16) (drop a s)) (drop a s) b → (c : ℕ) → Spans (node (drop (a + b) s)) (drop (a + b) s) c
-        → Spans (readField node s) s (a + b + c)
-    unfolding readField
-    field-spans = three-spans (readText s) (readOption (readValue 16)) node (λ name d f. (name, d, f)) s r
+  pub field-spans : (a : ℕ) → Spans (readText s) s a → (b : ℕ) → Spans (readOption (readValue 16) (drop a s)) (drop a s) b → (c : ℕ) → Spans (node (drop (a + b) s)) (drop (a + b) s) c
+      → Spans (readField node s) s (a + b + c)
+  unfolding readField
+  field-spans = three-spans (readText s) (readOption (readValue 16)) node (λ name d f. (name, d, f)) s r
 
 -- ---- a node
 
-module _ (d : ℕ) (s : List ℕ) (r : Reads (readSchema d s)) where
-  pub known-content : Reads (readSchemaContent (readSchema (d - 1)) (getD s 0 0) (drop 1 s))
-  known-content = reads-eq _ _ (schema-opened d s r _ refl) r
+module _ (u : Under) (d : ℕ) (s : List ℕ) (r : Reads (readSchemaUnder u d s)) where
+  pub known-content : Reads (readFormed (u .form) (readSchemaUnder u (d - 1)) (getD s 0 0) (drop 1 s))
+  known-content = reads-eq _ _ (schema-opened-under u d s r _ refl) r
 
-  pub bare-spans : bare (getD s 0 0) ≡ true → Spans (readSchema d s) s 1
-  bare-spans e = spans-some _ s 1 (Schema.Plain (getD s 0 0)) (schema-there d s r .1) (schema-opened d s r _ refl ∙ bare-content _ _ _ e)
+  pub bare-spans : bare (getD s 0 0) ≡ true → Spans (readSchemaUnder u d s) s 1
+  bare-spans e = spans-some _ s 1 (Schema.Plain (getD s 0 0)) (schema-there-under u d s r .1) (schema-opened-under u d s r _ refl ∙ bare-content _ _ _ _ e)
 
-  pub schema-spans : (n : ℕ) → Spans (readSchemaContent (readSchema (d - 1)) (getD s 0 0) (drop 1 s)) (drop 1 s) n → Spans (readSchema d s) s (1 + n)
-  schema-spans n w = spans-eq _ _ s _ (schema-opened d s r _ refl) (spans-drop _ s 1 n (schema-there d s r .1) w)
+  pub schema-spans : (n : ℕ) → Spans (readFormed (u .form) (readSchemaUnder u (d - 1)) (getD s 0 0) (drop 1 s)) (drop 1 s) n → Spans (readSchemaUnder u d s) s (1 + n)
+  schema-spans n w = spans-eq _ _ s _ (schema-opened-under u d s r _ refl) (spans-drop _ s 1 n (schema-there-under u d s r .1) w)

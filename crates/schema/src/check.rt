@@ -3,13 +3,14 @@ use crate::names::names_differ;
 use crate::plain::is_bare;
 use frame::Checked;
 use frame::both;
+use frame::kind;
 use number::read2;
 use schema_default::default_check;
-use schema_parts::leads_check;
 use schema_parts::leaf_check;
-use schema_parts::positions_check;
+use schema_parts::tables_check;
 use text::Len;
 use text::text_len;
+ghost use Rattle.frame.specs.Kind;
 ghost use Rattle.frame.specs.Readers.{readList};
 ghost use Rattle.frame.specs.SchemaFrame.{readField, readSchemaContent, readSchema};
 ghost use Rattle.frame.specs.Sound.{schemaSound};
@@ -39,38 +40,34 @@ pub fn schema_check(s: &[u8], depth: usize) -> Checked
 fn content_check(s: &[u8], kind: u8, depth: usize) -> Checked
     ensures { λ r. ⌜ Checks schemaSound (readSchemaContent (readSchema depth) kind (now (s .entry))) (now (s .entry)) r ⌝ }
 {
-    if kind == 8 {
+    if kind == kind::ARRAY {
         return schema_check(s, depth);
     }
-    if kind == 9 {
+    if kind == kind::MAP {
         return schema_check(s, depth);
     }
-    if kind == 10 {
+    if kind == kind::UNION {
         return union_check(s, depth);
     }
-    if kind == 11 {
+    if kind == kind::RECORD {
         return record_check(s, depth);
     }
     leaf_check(s, kind)
 }
 
-// Variants and both tables.
+// Variants and tables.
 fn union_check(s: &[u8], depth: usize) -> Checked
-    ensures { λ r. ⌜ Checks schemaSound (readSchemaContent (readSchema depth) 10 (now (s .entry))) (now (s .entry)) r ⌝ }
+    ensures { λ r. ⌜ Checks schemaSound (readSchemaContent (readSchema depth) Kind.Union (now (s .entry))) (now (s .entry)) r ⌝ }
 {
     let Checked::Of(a, ok) = variants_check(s, depth) else {
         return Checked::Broken;
     };
     let count = read2(s, 0) as usize;
-    let Checked::Of(b, kinds) = leads_check(&s[a..], count) else {
+    let Checked::Of(b, fine) = tables_check(&s[a..], count) else {
         return Checked::Broken;
     };
-    let e = a + b;
-    let Checked::Of(d, named) = positions_check(&s[e..], count) else {
-        return Checked::Broken;
-    };
-    let all = both(both(both(0 < count, ok), kinds), named);
-    Checked::Of(e + d, all)
+    let all = both(both(0 < count, ok), fine);
+    Checked::Of(a + b, all)
 }
 
 // Variants, none of which is a union.
@@ -88,7 +85,7 @@ fn variants_check(s: &[u8], depth: usize) -> Checked
             return Checked::Broken;
         };
         let kind = s[at];
-        ok = both(ok, both(kind != 10, fine));
+        ok = both(ok, both(kind != kind::UNION, fine));
         at += m;
         left -= 1;
     }
@@ -97,7 +94,7 @@ fn variants_check(s: &[u8], depth: usize) -> Checked
 
 // Fields, each by itself and then their names.
 fn record_check(s: &[u8], depth: usize) -> Checked
-    ensures { λ r. ⌜ Checks schemaSound (readSchemaContent (readSchema depth) 11 (now (s .entry))) (now (s .entry)) r ⌝ }
+    ensures { λ r. ⌜ Checks schemaSound (readSchemaContent (readSchema depth) Kind.Record (now (s .entry))) (now (s .entry)) r ⌝ }
 {
     let Checked::Of(m, ok) = fields_check(s, depth) else {
         return Checked::Broken;

@@ -1,30 +1,34 @@
 // The lengths of parts of schema nodes that hold no node and are known to be there.
 use frame::Checked;
+use frame::kind;
 use frame::texts_len;
 use number::read2;
 use schema_parts::leaf_check;
 use text::content;
 use value::value_len;
 ghost use mathlib.Core.Path.{_≡_};
+ghost use mathlib.Core.List.{List};
 ghost use Prim.Native.Nat.{_≤_, _<_};
 ghost use Rattle.text.specs.Read.{readNumber, readText};
 ghost use Rattle.text.specs.Measured.{Reads};
+ghost use Rattle.frame.specs.Kind;
+ghost use Rattle.frame.specs.Tree.{Schema};
 ghost use Rattle.frame.specs.Readers.{readList, readOption};
 ghost use Rattle.frame.specs.ValueFrame.{readValue};
-ghost use Rattle.frame.specs.SchemaFrame.{bare, readLead, readSymbols, readSchemaContent, readSchema};
+ghost use Rattle.frame.specs.SchemaFrame.{Form, bare, readLead, readTables, readSymbols, readSchemaContent, readSchema};
 ghost use Rattle.frame.specs.Checks.{Spans};
 
 // Whether a kind has no content: most fields of a record are of such a kind.
 pub fn is_bare(kind: u8) -> bool
     ensures { λ r. ⌜ r ≡ bare kind ⌝ }
 {
-    if kind <= 0x07 {
+    if kind <= kind::STRING {
         return true;
     }
-    if kind < 0x10 {
+    if kind < kind::DATE {
         return false;
     }
-    kind <= 0x18
+    kind <= kind::LOCAL_TIMESTAMP_NANOS
 }
 
 // 00, or 01 and a value.
@@ -61,7 +65,7 @@ pub fn enum_skip(s: &[u8]) -> usize
 
 // The content of a kind without child nodes or texts: its check reads a few bytes.
 pub fn leaf_skip(s: &[u8], kind: u8) -> usize
-    requires { ⌜ (8 ≤ kind → 11 < kind) × Reads (readSchemaContent (readSchema 0) kind (now s)) ⌝ }
+    requires { ⌜ (Kind.Array ≤ kind → Kind.Record < kind) × Reads (readSchemaContent (readSchema 0) kind (now s)) ⌝ }
     ensures { λ r. ⌜ Spans (readSchemaContent (readSchema 0) kind (now (s .entry))) (now (s .entry)) r ⌝ }
 {
     match leaf_check(s, kind) {
@@ -71,7 +75,7 @@ pub fn leaf_skip(s: &[u8], kind: u8) -> usize
 }
 
 // The kind table: 3 bytes for each entry.
-pub fn leads_skip(s: &[u8]) -> usize
+fn leads_skip(s: &[u8]) -> usize
     requires { ⌜ Reads (readList readLead (now s)) ⌝ }
     ensures { λ r. ⌜ Spans (readList readLead (now (s .entry))) (now (s .entry)) r ⌝ }
 {
@@ -79,9 +83,18 @@ pub fn leads_skip(s: &[u8]) -> usize
 }
 
 // The named positions: 2 bytes for each.
-pub fn positions_skip(s: &[u8]) -> usize
+fn positions_skip(s: &[u8]) -> usize
     requires { ⌜ Reads (readList (readNumber 2) (now s)) ⌝ }
     ensures { λ r. ⌜ Spans (readList (readNumber 2) (now (s .entry))) (now (s .entry)) r ⌝ }
 {
     2 + 2 * (read2(s, 0) as usize)
+}
+
+// Both tables.
+pub fn tables_skip(s: &[u8]) -> usize
+    requires { ⌜ ((vs : List Schema) × Reads (readTables Form.prepared vs (now s))) ⌝ }
+    ensures { λ r. ⌜ ((vs : List Schema) → Spans (readTables Form.prepared vs (now (s .entry))) (now (s .entry)) r) ⌝ }
+{
+    let a = leads_skip(s);
+    a + positions_skip(&s[a..])
 }

@@ -3,12 +3,13 @@
 use crate::plain::default_skip;
 use crate::plain::enum_skip;
 use crate::plain::is_bare;
-use crate::plain::leads_skip;
 use crate::plain::leaf_skip;
-use crate::plain::positions_skip;
+use crate::plain::tables_skip;
+use frame::kind;
 use number::read2;
 use text::content;
 ghost use Rattle.text.specs.Measured.{Reads};
+ghost use Rattle.frame.specs.Kind;
 ghost use Rattle.frame.specs.Readers.{readList};
 ghost use Rattle.frame.specs.SchemaFrame.{readField, readSchemaContent, readSchema};
 ghost use Rattle.frame.specs.Checks.{Spans};
@@ -29,32 +30,31 @@ fn content_skip(s: &[u8], kind: u8, depth: usize) -> usize
     requires { ⌜ Reads (readSchemaContent (readSchema depth) kind (now s)) ⌝ }
     ensures { λ r. ⌜ Spans (readSchemaContent (readSchema depth) kind (now (s .entry))) (now (s .entry)) r ⌝ }
 {
-    if kind == 8 {
+    if kind == kind::ARRAY {
         return schema_len(s, depth);
     }
-    if kind == 9 {
+    if kind == kind::MAP {
         return schema_len(s, depth);
     }
-    if kind == 10 {
+    if kind == kind::UNION {
         return union_skip(s, depth);
     }
-    if kind == 11 {
+    if kind == kind::RECORD {
         return fields_skip(s, depth);
     }
-    if kind == 12 {
+    if kind == kind::ENUM {
         return enum_skip(s);
     }
     leaf_skip(s, kind)
 }
 
-// Variants and both tables.
+// Variants and tables.
 fn union_skip(s: &[u8], depth: usize) -> usize
-    requires { ⌜ Reads (readSchemaContent (readSchema depth) 10 (now s)) ⌝ }
-    ensures { λ r. ⌜ Spans (readSchemaContent (readSchema depth) 10 (now (s .entry))) (now (s .entry)) r ⌝ }
+    requires { ⌜ Reads (readSchemaContent (readSchema depth) Kind.Union (now s)) ⌝ }
+    ensures { λ r. ⌜ Spans (readSchemaContent (readSchema depth) Kind.Union (now (s .entry))) (now (s .entry)) r ⌝ }
 {
     let a = variants_skip(s, depth);
-    let e = a + leads_skip(&s[a..]);
-    e + positions_skip(&s[e..])
+    a + tables_skip(&s[a..])
 }
 
 fn variants_skip(s: &[u8], depth: usize) -> usize

@@ -1,6 +1,7 @@
 // The default of a field: a value of the kinds that are allowed there, its map keys rising.
 use frame::Checked;
 use frame::both;
+use frame::kind;
 use number::read2;
 use number::read8;
 use value::value_check;
@@ -35,22 +36,22 @@ fn default_kinds(s: &[u8], depth: usize) -> bool
     ensures { λ r. ⌜ ((v : Value) (u : List ℕ) → readValue depth (now (s .entry)) ≡ some (v, u) → r ≡ defaultKinds v) ⌝ }
 {
     let kind = s[0];
-    if kind == 3 {
+    if kind == kind::LONG {
         return outside_int(read8(s, 1));
     }
-    if kind == 5 {
+    if kind == kind::DOUBLE {
         return scalar::finite_double(read8(s, 1));
     }
-    if kind == 7 {
+    if kind == kind::STRING {
         return true;
     }
-    if kind == 8 {
+    if kind == kind::ARRAY {
         return items_kinds(&s[1..], depth - 1);
     }
-    if kind == 9 {
+    if kind == kind::MAP {
         return entries_kinds(&s[1..], depth - 1);
     }
-    kind <= 2
+    kind <= kind::INT
 }
 
 fn items_kinds(s: &[u8], depth: usize) -> bool

@@ -1,4 +1,4 @@
--- The loops over the two tables of a union.
+-- The loops over the two tables of a union, and both tables together.
 use Prim.Native.Nat.{ℕ, suc, _+_, _-_, _≤_, _<_}
 use mathlib.Core.Path.{_≡_, refl, sym, ap, _∙_}
 use mathlib.Core.List.{List}
@@ -16,8 +16,12 @@ use Rattle.text.specs.Read.{_>>=_, readNumber}
 use Rattle.text.proofs.ReadLaws.{readNumber-some, readNumber-none}
 use Rattle.number.proofs.Laws.{numberAt-one}
 use Rattle.frame.specs.Readers.{readList}
-use Rattle.frame.specs.SchemaFrame.{readLead}
-use Rattle.frame.specs.Sound.{kindsSound, positionsSound}
+use Rattle.frame.specs.Tree.{Schema}
+use Rattle.frame.specs.SchemaFrame.{Form, readLead, readTables}
+use Rattle.frame.specs.Sound.{kindsSound, positionsSound, tablesSound}
+use Rattle.frame.specs.Checks.{Checks}
+use Rattle.frame.specs.declared.Checked.the-variants.{Of, Broken}
+use Rattle.frame.proofs.Measuring.{held, checks-some, checks-none, checks-broken}
 use Rattle.frame.proofs.Counting.{Going, going-step}
 
 pub lead-short : (s : List ℕ) → length s < 3 → readLead s ≡ none
@@ -54,3 +58,28 @@ positions-step count s at left ok w h g p ep fine ok' ef eo =
     (readNumber-some 2 (drop at s) (omega (arith, length-drop at s)) ∙ ap (λ q. some (q, drop 2 (drop at s))) (sym ep))
     ok' (positionsSound count)
     (λ l. ap (λ y. ok && (y && positionsSound count l)) (sym ef) ∙ sym (and-assoc ok fine (positionsSound count l)) ∙ ap (λ y. y && positionsSound count l) (sym eo))
+
+-- ---- prepared tables: one behind the other
+
+tables-read : (vs : List Schema) (s : List ℕ) (a : ℕ) (ks : List (ℕ × ℕ)) (b : ℕ) (ns : List ℕ) → readList readLead s ≡ some (ks, drop a s)
+    → readList (readNumber 2) (drop a s) ≡ some (ns, drop b (drop a s)) → readTables Form.prepared vs s ≡ some ((ks, ns), drop (a + b) s)
+unfolding readTables _>>=_
+tables-read vs s a ks b ns e g = rw (e, g, drop-drop b a s)
+
+module _ (count : ℕ) (vs : List Schema) (s : List ℕ) where
+  pub tables-broken : Checks (kindsSound count 0) (readList readLead s) s Broken → Checks (tablesSound count) (readTables Form.prepared vs s) s Broken
+  unfolding readTables _>>=_
+  tables-broken w = checks-none _ _ s (rw (checks-broken _ _ s w))
+
+  module _ (a : ℕ) (kinds : Bool) (w : Checks (kindsSound count 0) (readList readLead s) s (Of a kinds)) where
+    pub tables-broken₂ : Checks (positionsSound count) (readList (readNumber 2) (drop a s)) (drop a s) Broken → Checks (tablesSound count) (readTables Form.prepared vs s) s Broken
+    unfolding readTables _>>=_
+    tables-broken₂ v = let q = held _ _ s a kinds w in checks-none _ _ s (rw (q .read, checks-broken _ _ (drop a s) v))
+
+    pub tables-checks : (b : ℕ) (named : Bool) → Checks (positionsSound count) (readList (readNumber 2) (drop a s)) (drop a s) (Of b named) → (ok : Bool) → ok ≡ kinds && named
+        → Checks (tablesSound count) (readTables Form.prepared vs s) s (Of (a + b) ok)
+    tables-checks b named v ok e =
+        let q = held _ _ s a kinds w in
+        let r = held _ _ (drop a s) b named v in
+        checks-some _ _ s (a + b) ok (omega (arith, q .inside, r .inside, length-drop a s)) (q .what, r .what) (tables-read vs s a (q .what) b (r .what) (q .read) (r .read))
+        (e ∙ ap (λ y. y && named) (q .tells) ∙ ap (λ y. kindsSound count 0 (q .what) && y) (r .tells))

@@ -1,5 +1,6 @@
 // Schema nodes without children: what stands behind their kind byte.
 use frame::Checked;
+use frame::kind;
 use number::read2;
 use text::Len;
 use text::text_len;
@@ -7,9 +8,10 @@ ghost use mathlib.Core.List.{List};
 ghost use Prim.Native.Nat.{ℕ, _≤_, _<_};
 ghost use Rattle.text.specs.Read.{Read, readNumber, readText};
 ghost use Rattle.text.specs.Measured.{Measured};
+ghost use Rattle.frame.specs.Kind;
 ghost use Rattle.frame.specs.Tree.{Schema};
 ghost use Rattle.frame.specs.Readers.{readList, readOption};
-ghost use Rattle.frame.specs.SchemaFrame.{readSchemaContent};
+ghost use Rattle.frame.specs.SchemaFrame.{Form, readFormed};
 ghost use Rattle.frame.specs.Sound.{schemaSound};
 ghost use Rattle.frame.specs.Checks.{Checks};
 
@@ -74,7 +76,7 @@ fn option_size_len(s: &[u8]) -> Len
 
 // Symbols and default.
 fn enum_check(s: &[u8]) -> Checked
-    ensures { λ r. ⌜ ((node : List ℕ → Read Schema) → Checks schemaSound (readSchemaContent node 12 (now (s .entry))) (now (s .entry)) r) ⌝ }
+    ensures { λ r. ⌜ ((form : Form) (node : List ℕ → Read Schema) → Checks schemaSound (readFormed form node Kind.Enum (now (s .entry))) (now (s .entry)) r) ⌝ }
 {
     let Len::Of(a) = texts_measured(s) else {
         return Checked::Broken;
@@ -87,7 +89,7 @@ fn enum_check(s: &[u8]) -> Checked
 
 // Precision, scale and size.
 fn decimal_check(s: &[u8]) -> Checked
-    ensures { λ r. ⌜ ((node : List ℕ → Read Schema) → Checks schemaSound (readSchemaContent node 14 (now (s .entry))) (now (s .entry)) r) ⌝ }
+    ensures { λ r. ⌜ ((form : Form) (node : List ℕ → Read Schema) → Checks schemaSound (readFormed form node Kind.Decimal (now (s .entry))) (now (s .entry)) r) ⌝ }
 {
     if s.len() < 8 {
         return Checked::Broken;
@@ -99,7 +101,7 @@ fn decimal_check(s: &[u8]) -> Checked
 }
 
 fn fixed_check(s: &[u8]) -> Checked
-    ensures { λ r. ⌜ ((node : List ℕ → Read Schema) → Checks schemaSound (readSchemaContent node 13 (now (s .entry))) (now (s .entry)) r) ⌝ }
+    ensures { λ r. ⌜ ((form : Form) (node : List ℕ → Read Schema) → Checks schemaSound (readFormed form node Kind.Fixed (now (s .entry))) (now (s .entry)) r) ⌝ }
 {
     if s.len() < 2 {
         return Checked::Broken;
@@ -109,7 +111,7 @@ fn fixed_check(s: &[u8]) -> Checked
 
 // The form of a UUID; one of fixed size has 16 bytes.
 fn uuid_check(s: &[u8]) -> Checked
-    ensures { λ r. ⌜ ((node : List ℕ → Read Schema) → Checks schemaSound (readSchemaContent node 15 (now (s .entry))) (now (s .entry)) r) ⌝ }
+    ensures { λ r. ⌜ ((form : Form) (node : List ℕ → Read Schema) → Checks schemaSound (readFormed form node Kind.Uuid (now (s .entry))) (now (s .entry)) r) ⌝ }
 {
     if s.len() == 0 {
         return Checked::Broken;
@@ -133,7 +135,7 @@ fn uuid_check(s: &[u8]) -> Checked
 
 // The size of a Duration is 12.
 fn duration_check(s: &[u8]) -> Checked
-    ensures { λ r. ⌜ ((node : List ℕ → Read Schema) → Checks schemaSound (readSchemaContent node 25 (now (s .entry))) (now (s .entry)) r) ⌝ }
+    ensures { λ r. ⌜ ((form : Form) (node : List ℕ → Read Schema) → Checks schemaSound (readFormed form node Kind.Duration (now (s .entry))) (now (s .entry)) r) ⌝ }
 {
     if s.len() < 2 {
         return Checked::Broken;
@@ -144,28 +146,28 @@ fn duration_check(s: &[u8]) -> Checked
 
 // The content of a kind that has no child nodes.
 pub fn leaf_check(s: &[u8], kind: u8) -> Checked
-    requires { ⌜ (8 ≤ kind → 11 < kind) ⌝ }
-    ensures { λ r. ⌜ ((node : List ℕ → Read Schema) → Checks schemaSound (readSchemaContent node kind (now (s .entry))) (now (s .entry)) r) ⌝ }
+    requires { ⌜ (Kind.Array ≤ kind → Kind.Record < kind) ⌝ }
+    ensures { λ r. ⌜ ((form : Form) (node : List ℕ → Read Schema) → Checks schemaSound (readFormed form node kind (now (s .entry))) (now (s .entry)) r) ⌝ }
 {
-    if kind < 8 {
+    if kind < kind::ARRAY {
         return Checked::Of(0, true);
     }
-    if kind == 12 {
+    if kind == kind::ENUM {
         return enum_check(s);
     }
-    if kind == 13 {
+    if kind == kind::FIXED {
         return fixed_check(s);
     }
-    if kind == 14 {
+    if kind == kind::DECIMAL {
         return decimal_check(s);
     }
-    if kind == 15 {
+    if kind == kind::UUID {
         return uuid_check(s);
     }
-    if kind == 25 {
+    if kind == kind::DURATION {
         return duration_check(s);
     }
-    if kind < 25 {
+    if kind < kind::DURATION {
         return Checked::Of(0, true);
     }
     Checked::Broken

@@ -3,5 +3,4 @@ mod leaf;
 mod table;
 
 pub use leaf::leaf_check;
-pub use table::leads_check;
-pub use table::positions_check;
+pub use table::tables_check;

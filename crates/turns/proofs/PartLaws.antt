@@ -12,13 +12,13 @@ use Rattle.base.specs.Base.{if_then_else_}
 use Rattle.number.specs.Number.{numberAt}
 use Rattle.text.specs.Measured.{Reads}
 use Rattle.frame.specs.Kind
-use Rattle.frame.specs.Tree.{Value, Schema, Variants, schemaKind}
+use Rattle.frame.specs.Tree.{Value, Schema, Variants, schemaKind, schema-to-base-schemakind}
 use Rattle.frame.specs.SchemaFrame as frame
 use Rattle.frame.specs.SchemaFrame.{readSchema}
 use Rattle.frame.specs.Sound.{schemaSound, variantsSound, kindsSound, positionsSound, countVariants}
 use Rattle.frame.proofs.Reading.{reads-some}
 use Rattle.frame.proofs.SoundLaws.{sound-union, sound-variant}
-use Rattle.avro.specs.Union.{Trial, noTrial, schema-to-base-schemakind, lookupKind, tableLookup}
+use Rattle.avro.specs.Union.{Trial, noTrial, lookupKind, tableLookup}
 use Rattle.avro.specs.Resolve.{resolve, trials}
 use Rattle.avro.specs.Defaults.{defaultsShort, variantDefaultsShort}
 use Rattle.avro.proofs.UnionLaws.{none-some}

@@ -14,13 +14,13 @@ use Rattle.number.specs.Number.{numberAt}
 use Rattle.number.proofs.Laws.{numberAt-one}
 use Rattle.text.specs.Read.{Read, _>>=_, readNumber}
 use Rattle.text.proofs.ReadLaws.{readNumber-some}
-use Rattle.frame.specs.Tree.{Schema, UuidForm, schemaKind}
+use Rattle.frame.specs.Tree.{Schema, UuidForm, schemaKind, schema-to-base-schemakind}
 use Rattle.frame.specs.Readers.{readOption}
-use Rattle.frame.specs.SchemaFrame.{readUuidForm, readSchemaContent, readSchema}
+use Rattle.frame.specs.SchemaFrame.{readUuidForm, readFormed, readSchemaContent, readSchema}
 use Rattle.frame.proofs.Reading.{read-what, read-rest, not-both, bind-inv, map-inv, reads-some, reads-number, option-zero, option-one, option-long, option-is-one}
 use Rattle.frame.proofs.SchemaNodes.{schema-kind}
 use Rattle.schema_parts.proofs.Leaves.{kind-past}
-use Rattle.avro.specs.Union.{schema-to-base-schemakind, unnamedKind, namedKind, mustBeTried}
+use Rattle.avro.specs.Union.{unnamedKind, namedKind, mustBeTried}
 use Rattle.variants.specs.Ways.{baseRead}
 use Rattle.variants.proofs.UnionReading.{schema-content}
 
@@ -171,7 +171,7 @@ record DecimalParts (s : List ℕ) (t : Schema) : Type 0 where
 
 module _ (node : List ℕ → Read Schema) (s : List ℕ) (t : Schema) (r : List ℕ) where
   decimal-parts : readSchemaContent node 14 s ≡ some (t, r) → DecimalParts s t
-  unfolding readSchemaContent
+  unfolding readFormed
   decimal-parts e =
       let a = bind-inv (readNumber 4 s) _ (t, r) e in
       let b = bind-inv (readNumber 4 (a .0 .1)) _ (t, r) (a .1 .1) in
@@ -191,13 +191,13 @@ module _ (node : List ℕ → Read Schema) (s : List ℕ) (t : Schema) (r : List
       }
 
   uuid-form : readSchemaContent node 15 s ≡ some (t, r) → (f : UuidForm) × ((t ≡ Schema.Uuid f) × ((u : List ℕ) × (readUuidForm s ≡ some (f, u))))
-  unfolding readSchemaContent
+  unfolding readFormed
   uuid-form e =
       let a = bind-inv (readUuidForm s) _ (t, r) e in
       (a .0 .0, (sym (read-what (a .1 .1)), (a .0 .1, a .1 .0)))
 
   duration-form : readSchemaContent node 25 s ≡ some (t, r) → (n : ℕ) × (t ≡ Schema.Duration n)
-  unfolding readSchemaContent
+  unfolding readFormed
   duration-form e =
       let a = bind-inv (readNumber 2 s) _ (t, r) e in
       (a .0 .0, sym (read-what (a .1 .1)))
@@ -274,7 +274,7 @@ module _ (d : ℕ) (s : List ℕ) (t : Schema) (r : List ℕ) (e : readSchema d 
       go true g =
           let q = duration-form (readSchema (d - 1)) (drop 1 s) t r (content-of 25 (omega (arith, leb-true (getD s 0 0) 25 g))) in
           base-is 13 (ap schema-to-base-schemakind (q .1))
-      go false g = absurd (not-both (kind-past (readSchema (d - 1)) (drop 1 s) (getD s 0 0) (leb-false (getD s 0 0) 25 g)) (schema-content d s t r e))
+      go false g = absurd (not-both (kind-past _ (readSchema (d - 1)) (drop 1 s) (getD s 0 0) (leb-false (getD s 0 0) 25 g)) (schema-content d s t r e))
 
   module _ (h : getD s 0 0 ≡ 14) where
     decimal : DecimalParts (drop 1 s) t

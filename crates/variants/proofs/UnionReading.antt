@@ -18,7 +18,7 @@ use Rattle.text.proofs.ReadLaws.{readNumber-some, readNumber-none}
 use Rattle.frame.specs.Tree.{Schema}
 use Rattle.frame.specs.Readers.{readMany, readList}
 use Rattle.frame.specs.SchemaFrame as frame
-use Rattle.frame.specs.SchemaFrame.{readLead, readSchemaContent, readSchema}
+use Rattle.frame.specs.SchemaFrame.{Form, readLead, readTables, readFormed, readSchemaContent, readSchema}
 use Rattle.frame.specs.Sound.{countVariants}
 use Rattle.frame.specs.Checks.{Spans}
 use Rattle.frame.proofs.Reading.{read-what, read-rest, not-both, bind-inv, reads-some}
@@ -118,12 +118,13 @@ pub record Parts (depth : ℕ) (s : List ℕ) (t : Schema) : Type 0 where
   pub reads-named : readList (readNumber 2) later ≡ some (named, rest)
 
 pub union-parts : (d : ℕ) (s : List ℕ) (t : Schema) (r : List ℕ) → readSchema d s ≡ some (t, r) → getD s 0 0 ≡ 10 → Parts d s t
-unfolding readSchemaContent
+unfolding readFormed readTables
 union-parts d s t r e k =
     let c : readSchemaContent (readSchema (d - 1)) 10 (drop 1 s) ≡ some (t, r) = ap (λ x. readSchemaContent (readSchema (d - 1)) x (drop 1 s)) (sym k) ∙ schema-content d s t r e in
     let a = bind-inv (readList (readSchema (d - 1)) (drop 1 s)) _ (t, r) c in
-    let b = bind-inv (readList readLead (a .0 .1)) _ (t, r) (a .1 .1) in
-    let n = bind-inv (readList (readNumber 2) (b .0 .1)) _ (t, r) (b .1 .1) in
+    let q = bind-inv (readTables Form.prepared (a .0 .0) (a .0 .1)) _ (t, r) (a .1 .1) in
+    let b = bind-inv (readList readLead (a .0 .1)) _ (q .0) (q .1 .0) in
+    let n = bind-inv (readList (readNumber 2) (b .0 .1)) _ (q .0) (b .1 .1) in
     let v = list-some (readSchema (d - 1)) (drop 1 s) (a .0 .0) (a .0 .1) (a .1 .0) in
     record {
       variants = a .0 .0;
@@ -132,7 +133,7 @@ union-parts d s t r e k =
       behind = a .0 .1;
       later = b .0 .1;
       rest = n .0 .1;
-      is = sym (read-what (n .1 .1));
+      is = sym (read-what (q .1 .1)) ∙ ap (λ ts. Schema.Union (frame.variantsOf (a .0 .0)) (ts .0) (ts .1)) (sym (read-what (n .1 .1)));
       long = omega (arith, v .0, length-drop 1 s);
       deep = schema-there d s (reads-some t r e) .0;
       reads-variants = ap (readMany (readSchema (d - 1)) (numberAt s 1 2)) (sym (drop-drop 2 1 s)) ∙ v .1;

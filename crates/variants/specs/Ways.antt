@@ -8,12 +8,12 @@ use lib.Dec.{T, eqb}
 use lib.ListN.{length, drop, getD}
 use Rattle.number.specs.Number.{numberAt}
 use Rattle.text.specs.Read.{Read}
-use Rattle.frame.specs.Tree.{Schema, Variants}
+use Rattle.frame.specs.Tree.{Schema, Variants, schema-to-base-schemakind}
 use Rattle.frame.specs.Readers.{readMany}
 use Rattle.frame.specs.SchemaFrame.{readSchema}
 use Rattle.frame.specs.Sound.{countVariants, schemaSound}
 use Rattle.avro.specs.Defaults.{defaultsShort}
-use Rattle.avro.specs.Union.{schema-to-base-schemakind, lookupKind}
+use Rattle.avro.specs.Union.{lookupKind}
 use Rattle.find.specs.declared.Found.{Found}
 use Rattle.variants.specs.declared.Positions.{Positions}
 use Rattle.variants.specs.declared.Wanted.{Wanted}

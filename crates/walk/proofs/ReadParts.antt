@@ -9,7 +9,7 @@ use Rattle.text.specs.Measured.{Reads}
 use Rattle.frame.specs.Tree.{Value, Schema}
 use Rattle.frame.specs.Readers.{readMany, readList}
 use Rattle.frame.specs.ValueFrame.{contents, itemsOf, entriesOf, readEntry, readContent, readValue}
-use Rattle.frame.specs.SchemaFrame.{fieldsOf, readField, readSchemaContent, readSchema}
+use Rattle.frame.specs.SchemaFrame.{fieldsOf, readField, readFormed, readSchema}
 use Rattle.frame.proofs.Reading.{mapRead, reads-eq, reads-first}
 use Rattle.frame.proofs.Counting.{list-behind}
 use Rattle.frame.proofs.ValueNodes.{value-opened}
@@ -36,13 +36,13 @@ module _ (d : ℕ) (s : List ℕ) (p : Reads (readValue d s)) where
 
 module _ (d : ℕ) (s : List ℕ) (p : Reads (readSchema d s)) where
   pub schema-array : getD s 0 0 ≡ 8 → readSchema d s ≡ mapRead Schema.Array (readSchema (d - 1) (drop 1 s))
-  unfolding readSchemaContent
+  unfolding readFormed
   schema-array e = schema-opened d s p 8 e
 
   pub schema-map : getD s 0 0 ≡ 9 → readSchema d s ≡ mapRead Schema.Map (readSchema (d - 1) (drop 1 s))
-  unfolding readSchemaContent
+  unfolding readFormed
   schema-map e = schema-opened d s p 9 e
 
   pub schema-fields : getD s 0 0 ≡ 11 → (3 ≤ length s) × (readSchema d s ≡ mapRead (λ fs. Schema.Record (fieldsOf fs)) (readMany (readField (readSchema (d - 1))) (numberAt s 1 2) (drop 3 s)))
-  unfolding readSchemaContent
+  unfolding readFormed
   schema-fields e = counted-node (readField (readSchema (d - 1))) (λ fs. Schema.Record (fieldsOf fs)) (readSchema d s) s p (schema-opened d s p 11 e)

@@ -17,28 +17,28 @@ add-at : tie.Need-add-at
 add-at c = search needs
 
 shared-slice-read-if1 : tie.Need-shared-slice-read-if1
-shared-slice-read-if1 c = flag-inside _ _ (c .before .before .before .pre) _ _ (c .before .content .ensures .0)
+shared-slice-read-if1 c = flag-inside _ _ _ (c .before .before .before .pre) _ _ (c .before .content .ensures .0)
 
 returns : tie.Need-returns
-returns c = parts-none _ _ (c .before .before .before .before .pre) _ _ (c .before .before .content .ensures .0) (c .if1 .taken) _
+returns c = parts-none _ _ _ (c .before .before .before .before .pre) _ _ (c .before .before .content .ensures .0) (c .if1 .taken) _
 
 sub-value-len : tie.Need-sub-value-len
-sub-value-len c = behind-inside _ _ (c .before .before .before .before .pre) _ _ (c .before .before .content .ensures .0)
+sub-value-len c = behind-inside _ _ _ (c .before .before .before .before .pre) _ _ (c .before .before .content .ensures .0)
 
 part-value-len-start : tie.Need-part-value-len-start
-part-value-len-start c = behind-inside _ _ (c .before .before .before .before .pre) _ _ (c .before .before .content .ensures .0)
+part-value-len-start c = behind-inside _ _ _ (c .before .before .before .before .pre) _ _ (c .before .before .content .ensures .0)
 
 part-value-len-end : tie.Need-part-value-len-end
 part-value-len-end c = search needs
 
 value-len-requires : tie.Need-value-len-requires
-value-len-requires c κs = rw part-to-end (default-reads _ _ (c .before .before .before .before .before .pre) _ _ (c .before .before .before .content .ensures .0) (c .before .if1 .left))
+value-len-requires c κs = rw part-to-end (default-reads _ _ _ (c .before .before .before .before .before .pre) _ _ (c .before .before .before .content .ensures .0) (c .before .if1 .left))
 
 add-t7 : tie.Need-add-t7
-add-t7 c = omega (arith, schema-inside _ _ (c .before .before .before .before .before .before .pre) _ _ (c .before .before .before .before .content .ensures .0) (c .before .before .if1 .left) _ (rw part-to-end at (c .value-len .ensures)), c .before .before .before .before .before .before .good)
+add-t7 c = omega (arith, schema-inside _ _ _ (c .before .before .before .before .before .before .pre) _ _ (c .before .before .before .before .content .ensures .0) (c .before .before .if1 .left) _ (rw part-to-end at (c .value-len .ensures)), c .before .before .before .before .before .before .good)
 
 returns-2 : tie.Need-returns-2
-returns-2 c = parts-some _ _ (c .before .before .before .before .before .before .pre) _ _ (c .before .before .before .before .content .ensures .0) (c .before .before .if1 .left) _ (rw part-to-end at (c .value-len .ensures))
+returns-2 c = parts-some _ _ _ (c .before .before .before .before .before .before .pre) _ _ (c .before .before .before .before .content .ensures .0) (c .before .before .if1 .left) _ (rw part-to-end at (c .value-len .ensures))
 
 pub field-at-spec : {M : Type 1} → statement M
 field-at-spec =

@@ -3,17 +3,18 @@ use borrow.Author.Needs.{needs}
 use native.Mathlib.Omega.{arith}
 use Prim.Native.Nat.{ℕ, _+_, _*_, _<_}
 use mathlib.Core.Path.{refl, sym, _∙_}
+use mathlib.Core.List.{[]}
 use lib.ListN.{length-drop}
 use Rattle.frame.specs.Tree.{Schema}
 use Rattle.frame.specs.Readers.{readList}
-use Rattle.frame.specs.SchemaFrame.{readField, readSchema, variantsOf}
+use Rattle.frame.specs.SchemaFrame.{Form, readField, readSchema, variantsOf}
 use Rattle.frame.specs.Sound.{schemaSound, variantsSound}
-use Rattle.frame.proofs.Measuring.{long, measured-broken, held, checks-none, checks-broken, checks-reads, checks-measured, checks-map}
+use Rattle.frame.proofs.Measuring.{long, measured-broken, held, checks-le, checks-none, checks-broken, checks-reads, checks-map}
 use Rattle.frame.proofs.Counting.{list-short, Going, going-list, going-next, going-none, going-end}
 use Rattle.frame.proofs.SchemaNodes.{schema-bottom, schema-empty, schema-node}
 use Rattle.schema.specs.Parts.{fieldSound, eachSound, noUnions}
-use Rattle.schema.proofs.Nodes.{bare-checks, node-checks, array-content, map-content, union-none, union-broken₂, union-broken₃, field-none, field-broken₂, field-broken₃, field-checks, record-none}
-use Rattle.schema.proofs.Checking.{variant-there, variants-step, count-there, union-checks, record-checks}
+use Rattle.schema.proofs.Nodes.{bare-checks, node-checks, array-content, map-content, union-none, field-none, field-broken₂, field-broken₃, field-checks, record-none}
+use Rattle.schema.proofs.Checking.{variant-there, variants-step, count-there, union-broken₂, union-checks, record-checks}
 use borrow.Fn.Kinds.{In}
 use borrow.Fn.PlainCycle.{Measures, is, falls, and}
 use borrow.Rule.Slice.PartAt.{part-to-end}
@@ -44,8 +45,7 @@ use Rattle.schema_parts.proofs.leaf_check.Reads as leaf-check-reads
 use Rattle.schema.proofs.plain.is_bare.Reads as is-bare-reads
 use Rattle.schema.proofs.names.names_differ.Reads as names-differ-reads
 use Rattle.frame.proofs.both.Reads as both-reads
-use Rattle.schema_parts.proofs.leads_check.Reads as leads-check-reads
-use Rattle.schema_parts.proofs.positions_check.Reads as positions-check-reads
+use Rattle.schema_parts.proofs.tables_check.Reads as tables-check-reads
 use Rattle.text.proofs.text_len.Reads as text-len-reads
 use Rattle.schema.proofs.check.+content_check+field_check+fields_check+record_check+schema_check+union_check+variants_check.{
   statement,
@@ -171,7 +171,7 @@ abbrev schema-check-claims : ℕ → schema-check-lts.Claims
 schema-check-claims t = (is-bare-reads.Asked, is-bare-reads.Learnt, content-check-below t, content-check.Post)
 
 abbrev union-check-claims : ℕ → union-check-lts.Claims
-union-check-claims t = (variants-check-below t, variants-check.Post, read2-reads.Asked, read2-reads.Learnt, leads-check-reads.Asked, leads-check-reads.Learnt, positions-check-reads.Asked, positions-check-reads.Learnt, both-reads.Asked, both-reads.Learnt)
+union-check-claims t = (variants-check-below t, variants-check.Post, read2-reads.Asked, read2-reads.Learnt, tables-check-reads.Asked, tables-check-reads.Learnt, both-reads.Asked, both-reads.Learnt)
 
 abbrev variants-check-claims : ℕ → variants-check-lts.Claims
 variants-check-claims t = (read2-reads.Asked, read2-reads.Learnt, schema-check-below t, schema-check.Post, both-reads.Asked, both-reads.Learnt)
@@ -194,7 +194,7 @@ content-check-leaf-check-requires : (t : ℕ) → content-check-lts.Need-leaf-ch
 content-check-leaf-check-requires t c κs = λ h. omega (arith, c .before .before .before .if1 .left, c .before .before .if2 .left, c .before .if3 .left, c .if4 .left)
 
 content-check-returns-5 : (t : ℕ) → content-check-lts.Need-returns-5 (content-check-claims t) (content-check-at t) content-check.Post
-content-check-returns-5 t c = c .leaf-check .ensures (readSchema (c .before .before .before .before .before .before .args .depth))
+content-check-returns-5 t c = c .leaf-check .ensures Form.prepared (readSchema (c .before .before .before .before .before .before .args .depth))
 
 field-check-returns : (t : ℕ) → field-check-lts.Need-returns (field-check-claims t) (field-check-at t) field-check.Post
 field-check-returns t c = checks-none _ _ _ (field-none _ _ (measured-broken _ _ (rw (c .enum-told .given .1) at (c .before .before .text-len .ensures))))
@@ -262,34 +262,34 @@ unfolding eachSound
 fields-check-returns-3 t c = going-end _ _ _ _ _ _ _ _ (c .before .loop .inv) (c .loop-test .left) refl
 
 record-check-returns : (t : ℕ) → record-check-lts.Need-returns (record-check-claims t) (record-check-at t) record-check.Post
-record-check-returns t c = checks-none _ _ _ (record-none _ _ (checks-broken _ _ _ (rw (c .enum-told .given .1) at (c .before .before .fields-check .ensures))))
+record-check-returns t c = checks-none _ _ _ (record-none _ _ _ (checks-broken _ _ _ (rw (c .enum-told .given .1) at (c .before .before .fields-check .ensures))))
 
 record-check-names-differ-requires : (t : ℕ) → record-check-lts.Need-names-differ-requires (record-check-claims t) (record-check-at t) record-check.Post
 record-check-names-differ-requires t c κs = checks-reads _ _ _ _ _ (rw (c .before .m .given .1) at (c .before .before .before .fields-check .ensures))
 
 record-check-returns-2 : (t : ℕ) → record-check-lts.Need-returns-2 (record-check-claims t) (record-check-at t) record-check.Post
-record-check-returns-2 t c = record-checks _ _ _ _ (rw (c .before .before .before .m .given .1) at (c .before .before .before .before .before .fields-check .ensures)) _ (c .before .names-differ .ensures) _ (c .both .ensures)
+record-check-returns-2 t c = record-checks _ _ _ _ _ (rw (c .before .before .before .m .given .1) at (c .before .before .before .before .before .fields-check .ensures)) _ (c .before .names-differ .ensures) _ (c .both .ensures)
 
 schema-check-returns : (t : ℕ) → schema-check-lts.Need-returns (schema-check-claims t) (schema-check-at t) schema-check.Post
-schema-check-returns t c = checks-none _ _ _ (schema-bottom _ _ (c .if1 .taken))
+schema-check-returns t c = checks-none _ _ _ (schema-bottom _ _ _ (c .if1 .taken))
 
 schema-check-returns-2 : (t : ℕ) → schema-check-lts.Need-returns-2 (schema-check-claims t) (schema-check-at t) schema-check.Post
-schema-check-returns-2 t c = checks-none _ _ _ (schema-empty _ _ (c .if2 .taken))
+schema-check-returns-2 t c = checks-none _ _ _ (schema-empty _ _ _ (c .if2 .taken))
 
 schema-check-returns-3 : (t : ℕ) → schema-check-lts.Need-returns-3 (schema-check-claims t) (schema-check-at t) schema-check.Post
-schema-check-returns-3 t c = bare-checks _ _ (c .before .before .before .before .if1 .left) (c .before .before .before .if2 .left) (sym (c .before .is-bare .ensures) ∙ c .if3 .taken)
+schema-check-returns-3 t c = bare-checks _ _ _ (c .before .before .before .before .if1 .left) (c .before .before .before .if2 .left) (sym (c .before .is-bare .ensures) ∙ c .if3 .taken)
 
 schema-check-returns-4 : (t : ℕ) → schema-check-lts.Need-returns-4 (schema-check-claims t) (schema-check-at t) schema-check.Post
-schema-check-returns-4 t c = checks-none _ _ _ (schema-node _ _ (c .before .before .before .before .before .before .before .before .if1 .left) (c .before .before .before .before .before .before .before .if2 .left) ∙ checks-broken _ _ _ (rw (c .enum-told .given .1, part-to-end) at (c .before .before .content-check .ensures)))
+schema-check-returns-4 t c = checks-none _ _ _ (schema-node _ _ _ (c .before .before .before .before .before .before .before .before .if1 .left) (c .before .before .before .before .before .before .before .if2 .left) ∙ checks-broken _ _ _ (rw (c .enum-told .given .1, part-to-end) at (c .before .before .content-check .ensures)))
 
 schema-check-add-t7 : (t : ℕ) → schema-check-lts.Need-add-t7 (schema-check-claims t) (schema-check-at t) schema-check.Post
 schema-check-add-t7 t c = omega (arith, (held _ _ _ _ _ (rw (c .before .m .given .1, part-to-end) at (c .before .before .before .content-check .ensures))) .inside, length-drop 1 (c .before .before .before .before .before .before .before .before .before .before .before .args .s .now), c .before .before .before .before .before .before .before .before .before .before .before .good)
 
 schema-check-returns-5 : (t : ℕ) → schema-check-lts.Need-returns-5 (schema-check-claims t) (schema-check-at t) schema-check.Post
-schema-check-returns-5 t c = node-checks _ _ _ _ (c .before .before .before .before .before .before .before .before .before .if1 .left) (c .before .before .before .before .before .before .before .before .if2 .left) (rw (c .before .m .given .1, part-to-end) at (c .before .before .before .content-check .ensures))
+schema-check-returns-5 t c = node-checks _ _ _ _ _ (c .before .before .before .before .before .before .before .before .before .if1 .left) (c .before .before .before .before .before .before .before .before .if2 .left) (rw (c .before .m .given .1, part-to-end) at (c .before .before .before .content-check .ensures))
 
 union-check-returns : (t : ℕ) → union-check-lts.Need-returns (union-check-claims t) (union-check-at t) union-check.Post
-union-check-returns t c = checks-none _ _ _ (union-none _ _ (checks-broken _ _ _ (rw (c .enum-told .given .1) at (c .before .before .variants-check .ensures))))
+union-check-returns t c = checks-none _ _ _ (union-none _ _ _ (checks-broken _ _ _ (rw (c .enum-told .given .1) at (c .before .before .variants-check .ensures))))
 
 union-check-read2-requires : (t : ℕ) → union-check-lts.Need-read2-requires (union-check-claims t) (union-check-at t) union-check.Post
 union-check-read2-requires t c κs = count-there _ _ _ _ (rw (c .before .a .given .1) at (c .before .before .before .variants-check .ensures))
@@ -297,32 +297,24 @@ union-check-read2-requires t c κs = count-there _ _ _ _ (rw (c .before .a .give
 union-check-cast-count : (t : ℕ) → union-check-lts.Need-cast-count (union-check-claims t) (union-check-at t) union-check.Post
 union-check-cast-count t c = omega (arith, c .read2 .ok)
 
-union-check-sub-leads-check : (t : ℕ) → union-check-lts.Need-sub-leads-check (union-check-claims t) (union-check-at t) union-check.Post
-union-check-sub-leads-check t c = omega (arith, (held _ _ _ _ _ (rw (c .before .before .a .given .1) at (c .before .before .before .before .variants-check .ensures))) .inside)
+union-check-sub-tables-check : (t : ℕ) → union-check-lts.Need-sub-tables-check (union-check-claims t) (union-check-at t) union-check.Post
+union-check-sub-tables-check t c = omega (arith, checks-le _ _ _ _ _ (rw (c .before .before .a .given .1) at (c .before .before .before .before .variants-check .ensures)))
 
-union-check-part-leads-check-start : (t : ℕ) → union-check-lts.Need-part-leads-check-start (union-check-claims t) (union-check-at t) union-check.Post
-union-check-part-leads-check-start t c = omega (arith, (held _ _ _ _ _ (rw (c .before .before .a .given .1) at (c .before .before .before .before .variants-check .ensures))) .inside)
+union-check-part-tables-check-start : (t : ℕ) → union-check-lts.Need-part-tables-check-start (union-check-claims t) (union-check-at t) union-check.Post
+union-check-part-tables-check-start t c = omega (arith, checks-le _ _ _ _ _ (rw (c .before .before .a .given .1) at (c .before .before .before .before .variants-check .ensures)))
 
 union-check-returns-2 : (t : ℕ) → union-check-lts.Need-returns-2 (union-check-claims t) (union-check-at t) union-check.Post
-union-check-returns-2 t c = checks-none _ _ _ (union-broken₂ _ _ _ (checks-measured _ _ _ _ _ (rw (c .before .before .before .before .before .before .a .given .1) at (c .before .before .before .before .before .before .before .before .variants-check .ensures))) _ (rw (c .enum-told2 .given .1, part-to-end) at (c .before .before .leads-check .ensures)))
+union-check-returns-2 t c =
+    checks-none _ _ _ (union-broken₂ _ _ _ _ _ (rw (c .before .before .before .before .before .before .a .given .1) at (c .before .before .before .before .before .before .before .before .variants-check .ensures)) _ (c .before .before .before .before .read2 .ensures)
+    λ vs l. rw (c .enum-told2 .given .1, part-to-end) at (c .before .before .tables-check .ensures vs))
 
-union-check-add-e : (t : ℕ) → union-check-lts.Need-add-e (union-check-claims t) (union-check-at t) union-check.Post
-union-check-add-e t c = omega (arith, (held _ _ _ _ _ (rw (c .before .before .before .before .before .before .before .a .given .1) at (c .before .before .before .before .before .before .before .before .before .variants-check .ensures))) .inside, (held _ _ _ _ _ (rw (c .before .b .given .1, part-to-end) at (c .before .before .before .leads-check .ensures))) .inside, length-drop (c .before .before .before .before .before .before .before .a .given .0 .0) (c .before .before .before .before .before .before .before .before .before .before .before .args .s .now), c .before .before .before .before .before .before .before .before .before .before .before .good)
-
-union-check-sub-positions-check : (t : ℕ) → union-check-lts.Need-sub-positions-check (union-check-claims t) (union-check-at t) union-check.Post
-union-check-sub-positions-check t c = omega (arith, (held _ _ _ _ _ (rw (c .before .before .before .before .before .before .before .a .given .1) at (c .before .before .before .before .before .before .before .before .before .variants-check .ensures))) .inside, (held _ _ _ _ _ (rw (c .before .b .given .1, part-to-end) at (c .before .before .before .leads-check .ensures))) .inside, length-drop (c .before .before .before .before .before .before .before .a .given .0 .0) (c .before .before .before .before .before .before .before .before .before .before .before .args .s .now))
-
-union-check-part-positions-check-start : (t : ℕ) → union-check-lts.Need-part-positions-check-start (union-check-claims t) (union-check-at t) union-check.Post
-union-check-part-positions-check-start t c = omega (arith, (held _ _ _ _ _ (rw (c .before .before .before .before .before .before .before .a .given .1) at (c .before .before .before .before .before .before .before .before .before .variants-check .ensures))) .inside, (held _ _ _ _ _ (rw (c .before .b .given .1, part-to-end) at (c .before .before .before .leads-check .ensures))) .inside, length-drop (c .before .before .before .before .before .before .before .a .given .0 .0) (c .before .before .before .before .before .before .before .before .before .before .before .args .s .now))
+union-check-add-t13 : (t : ℕ) → union-check-lts.Need-add-t13 (union-check-claims t) (union-check-at t) union-check.Post
+union-check-add-t13 t c =
+    omega (arith, checks-le _ _ _ _ _ (rw (c .before .before .before .before .before .before .before .before .before .a .given .1) at (c .before .before .before .before .before .before .before .before .before .before .before .variants-check .ensures)), checks-le _ _ _ _ _ (rw (c .before .before .before .b .given .1, part-to-end) at (c .before .before .before .before .before .tables-check .ensures [])), length-drop (c .before .before .before .before .before .before .before .before .before .a .given .0 .0) (c .before .before .before .before .before .before .before .before .before .before .before .before .before .args .s .now), c .before .before .before .before .before .before .before .before .before .before .before .before .before .good)
 
 union-check-returns-3 : (t : ℕ) → union-check-lts.Need-returns-3 (union-check-claims t) (union-check-at t) union-check.Post
-union-check-returns-3 t c = checks-none _ _ _ (union-broken₃ _ _ _ (checks-measured _ _ _ _ _ (rw (c .before .before .before .before .before .before .before .before .before .before .before .a .given .1) at (c .before .before .before .before .before .before .before .before .before .before .before .before .before .variants-check .ensures))) _ _ _ (rw (c .before .before .before .before .before .b .given .1, part-to-end) at (c .before .before .before .before .before .before .before .leads-check .ensures)) (rw (c .enum-told3 .given .1, part-to-end) at (c .before .before .positions-check .ensures)))
-
-union-check-add-t16 : (t : ℕ) → union-check-lts.Need-add-t16 (union-check-claims t) (union-check-at t) union-check.Post
-union-check-add-t16 t c = omega (arith, (held _ _ _ _ _ (rw (c .before .before .before .before .before .before .before .before .before .before .before .before .before .before .before .a .given .1) at (c .before .before .before .before .before .before .before .before .before .before .before .before .before .before .before .before .before .variants-check .ensures))) .inside, (held _ _ _ _ _ (rw (c .before .before .before .before .before .before .before .before .before .b .given .1, part-to-end) at (c .before .before .before .before .before .before .before .before .before .before .before .leads-check .ensures))) .inside, length-drop (c .before .before .before .before .before .before .before .before .before .before .before .before .before .before .before .a .given .0 .0) (c .before .before .before .before .before .before .before .before .before .before .before .before .before .before .before .before .before .before .before .args .s .now), (held _ _ _ _ _ (rw (c .before .before .before .before .d .given .1, part-to-end) at (c .before .before .before .before .before .before .positions-check .ensures))) .inside, length-drop (c .before .before .before .before .before .before .before .before .before .before .before .before .before .before .before .a .given .0 .0 + c .before .before .before .before .before .before .before .before .before .b .given .0 .0) (c .before .before .before .before .before .before .before .before .before .before .before .before .before .before .before .before .before .before .before .args .s .now), c .before .before .before .before .before .before .before .before .before .before .before .before .before .before .before .before .before .before .before .good)
-
-union-check-returns-4 : (t : ℕ) → union-check-lts.Need-returns-4 (union-check-claims t) (union-check-at t) union-check.Post
-union-check-returns-4 t c = union-checks _ _ _ _ (rw (c .before .before .before .before .before .before .before .before .before .before .before .before .before .before .before .a .given .1) at (c .before .before .before .before .before .before .before .before .before .before .before .before .before .before .before .before .before .variants-check .ensures)) _ (c .before .before .before .before .before .before .before .before .before .before .before .before .before .read2 .ensures) _ _ (rw (c .before .before .before .before .before .before .before .before .before .b .given .1, part-to-end) at (c .before .before .before .before .before .before .before .before .before .before .before .leads-check .ensures)) _ _ (rw (c .before .before .before .before .d .given .1, part-to-end) at (c .before .before .before .before .before .before .positions-check .ensures)) _ _ _ (c .before .before .both .ensures) (c .before .both2 .ensures) (c .both3 .ensures)
+union-check-returns-3 t c =
+    union-checks _ _ _ _ _ (rw (c .before .before .before .before .before .before .before .before .before .a .given .1) at (c .before .before .before .before .before .before .before .before .before .before .before .variants-check .ensures)) _ (c .before .before .before .before .before .before .before .read2 .ensures) _ _ (λ vs l. rw (c .before .before .before .b .given .1, part-to-end) at (c .before .before .before .before .before .tables-check .ensures vs)) _ _ (c .before .both .ensures) (c .both2 .ensures)
 
 abbrev variants-check-Inv-loop : variants-check-lts.InvT-loop
 variants-check-Inv-loop s depth left₀ at₀ ok₀ left at ok = Going (readList (readSchema depth) s) (readSchema depth) noUnions s at left ok noUnions
@@ -349,13 +341,13 @@ variants-check-returns-2 : (t : ℕ) → variants-check-lts.Need-returns-2 (vari
 variants-check-returns-2 t c = checks-none _ _ _ (going-none _ _ _ _ _ _ _ _ (c .before .before .before .before .before .loop .inv) (c .before .before .before .before .loop-test .taken) (checks-broken _ _ _ (rw (c .enum-told .given .1, part-to-end) at (c .before .before .schema-check .ensures))))
 
 variants-check-shared-slice-read-kind : (t : ℕ) → variants-check-lts.Need-shared-slice-read-kind (variants-check-claims t) (variants-check-at t) variants-check.Post variants-check-Inv-loop variants-check-μ-loop
-variants-check-shared-slice-read-kind t c = variant-there _ _ _ _ _ (rw (c .before .before .m .given .1, part-to-end) at (c .before .before .before .before .schema-check .ensures))
+variants-check-shared-slice-read-kind t c = variant-there _ _ _ _ _ _ (rw (c .before .before .m .given .1, part-to-end) at (c .before .before .before .before .schema-check .ensures))
 
 variants-check-add-at : (t : ℕ) → variants-check-lts.Need-add-at (variants-check-claims t) (variants-check-at t) variants-check.Post variants-check-Inv-loop variants-check-μ-loop
 variants-check-add-at t c = omega (arith, (held _ _ _ _ _ (rw (c .before .before .before .before .m .given .1, part-to-end) at (c .before .before .before .before .before .before .schema-check .ensures))) .inside, length-drop (c .before .before .before .before .before .before .before .before .before .loop .at) (c .before .before .before .before .before .before .before .before .before .before .before .before .before .args .s .now), c .before .before .before .before .before .before .before .before .before .before .before .before .before .good, c .before .before .before .before .before .before .before .before .before .loop .inv .inside)
 
 variants-check-loop-again : (t : ℕ) → variants-check-lts.Need-loop-again (variants-check-claims t) (variants-check-at t) variants-check.Post variants-check-Inv-loop variants-check-μ-loop
-variants-check-loop-again t c = variants-step _ _ _ _ _ (c .before .before .before .before .before .before .before .before .before .loop .inv) (c .before .before .before .before .before .before .before .before .loop-test .taken) _ _ _ _ (rw (c .before .before .before .before .m .given .1, part-to-end) at (c .before .before .before .before .before .before .schema-check .ensures)) (c .before .both .ensures) (c .both2 .ensures)
+variants-check-loop-again t c = variants-step _ _ _ _ _ _ (c .before .before .before .before .before .before .before .before .before .loop .inv) (c .before .before .before .before .before .before .before .before .loop-test .taken) _ _ _ _ (rw (c .before .before .before .before .m .given .1, part-to-end) at (c .before .before .before .before .before .before .schema-check .ensures)) (c .before .both .ensures) (c .both2 .ensures)
 
 variants-check-returns-3 : (t : ℕ) → variants-check-lts.Need-returns-3 (variants-check-claims t) (variants-check-at t) variants-check.Post variants-check-Inv-loop variants-check-μ-loop
 unfolding variantsSound variantsOf
@@ -368,5 +360,5 @@ pub +content-check+field-check+fields-check+record-check+schema-check+union-chec
     (λ t. fields-check-lts.spec (fields-check-claims t) (fields-check-at t) fields-check.Post fields-check-Inv-loop fields-check-μ-loop (fields-check-returns t) (λ c κs. search needs) (fields-check-cast-left t) (fields-check-loop-holds t) (fields-check-sub-field-check t) (fields-check-part-field-check-start t) (λ c. search needs) (λ c κs. search needs) (λ c. search needs) (λ c. search needs) (fields-check-returns-2 t) (λ c κs. search needs) (fields-check-add-at t) (λ c. search needs) (λ c. search needs) (fields-check-loop-again t) (fields-check-returns-3 t))
     (λ t. record-check-lts.spec (record-check-claims t) (record-check-at t) record-check.Post (λ c κs. search needs) (λ c. search needs) (λ c. search needs) (record-check-returns t) (record-check-names-differ-requires t) (λ c κs. search needs) (record-check-returns-2 t))
     (λ t. schema-check-lts.spec (schema-check-claims t) (schema-check-at t) schema-check.Post (schema-check-returns t) (schema-check-returns-2 t) (λ c. search needs) (λ c κs. search needs) (schema-check-returns-3 t) (λ c. search needs) (λ c. search needs) (λ c. search needs) (λ c. search needs) (λ c κs. search needs) (λ c. search needs) (λ c. search needs) (schema-check-returns-4 t) (schema-check-add-t7 t) (schema-check-returns-5 t))
-    (λ t. union-check-lts.spec (union-check-claims t) (union-check-at t) union-check.Post (λ c κs. search needs) (λ c. search needs) (λ c. search needs) (union-check-returns t) (union-check-read2-requires t) (union-check-cast-count t) (union-check-sub-leads-check t) (union-check-part-leads-check-start t) (λ c. search needs) (λ c κs. search needs) (λ c. search needs) (λ c. search needs) (union-check-returns-2 t) (union-check-add-e t) (union-check-sub-positions-check t) (union-check-part-positions-check-start t) (λ c. search needs) (λ c κs. search needs) (λ c. search needs) (λ c. search needs) (union-check-returns-3 t) (λ c κs. search needs) (λ c κs. search needs) (λ c κs. search needs) (union-check-add-t16 t) (union-check-returns-4 t))
+    (λ t. union-check-lts.spec (union-check-claims t) (union-check-at t) union-check.Post (λ c κs. search needs) (λ c. search needs) (λ c. search needs) (union-check-returns t) (union-check-read2-requires t) (union-check-cast-count t) (union-check-sub-tables-check t) (union-check-part-tables-check-start t) (λ c. search needs) (λ c κs. search needs) (λ c. search needs) (λ c. search needs) (union-check-returns-2 t) (λ c κs. search needs) (λ c κs. search needs) (union-check-add-t13 t) (union-check-returns-3 t))
     λ t. variants-check-lts.spec (variants-check-claims t) (variants-check-at t) variants-check.Post variants-check-Inv-loop variants-check-μ-loop (variants-check-returns t) (λ c κs. search needs) (variants-check-cast-left t) (variants-check-loop-holds t) (variants-check-sub-schema-check t) (variants-check-part-schema-check-start t) (λ c. search needs) (λ c κs. search needs) (λ c. search needs) (λ c. search needs) (variants-check-returns-2 t) (variants-check-shared-slice-read-kind t) (λ c κs. search needs) (λ c κs. search needs) (variants-check-add-at t) (λ c. search needs) (λ c. search needs) (variants-check-loop-again t) (variants-check-returns-3 t)

@@ -2,6 +2,7 @@
 use native.Mathlib.Omega.{arith}
 use Prim.Native.Nat.{ℕ, _+_, _*_, _<_}
 use mathlib.Core.Path.{sym, _∙_}
+use mathlib.Core.List.{[]}
 use lib.ListN.{length, length-drop}
 use Rattle.text.proofs.ReadLaws.{reads-text}
 use Rattle.frame.specs.SchemaFrame.{readField, readSchema}
@@ -9,7 +10,7 @@ use Rattle.frame.proofs.Reading.{reads-eq}
 use Rattle.frame.proofs.Measuring.{spans-le, spans-eq}
 use Rattle.frame.proofs.Counting.{reads-list, Walking, walking-start, walking-first, walking-step, walking-end}
 use Rattle.frame.proofs.SchemaNodes.{schema-there}
-use Rattle.schema.proofs.Skipping.{text-held, leaf-content, array-known, array-spans, map-known, map-spans, record-known, record-spans, enum-known, enum-spans, union-variants, union-leads, union-positions, union-spans, field-text, field-default, field-schema, field-spans, known-content, bare-spans, schema-spans}
+use Rattle.schema.proofs.Skipping.{text-held, leaf-content, array-known, array-spans, map-known, map-spans, record-known, record-spans, enum-known, enum-spans, union-variants, union-tables, union-spans, field-text, field-default, field-schema, field-spans, known-content, bare-spans, schema-spans}
 use borrow.Author.Needs.{needs}
 use borrow.Fn.Kinds.{In}
 use borrow.Fn.PlainCycle.{Measures, is, falls, and}
@@ -37,9 +38,8 @@ use Rattle.number.proofs.read2.Reads as read2-reads
 use Rattle.schema.proofs.plain.default_skip.Reads as default-skip-reads
 use Rattle.schema.proofs.plain.enum_skip.Reads as enum-skip-reads
 use Rattle.schema.proofs.plain.is_bare.Reads as is-bare-reads
-use Rattle.schema.proofs.plain.leads_skip.Reads as leads-skip-reads
 use Rattle.schema.proofs.plain.leaf_skip.Reads as leaf-skip-reads
-use Rattle.schema.proofs.plain.positions_skip.Reads as positions-skip-reads
+use Rattle.schema.proofs.plain.tables_skip.Reads as tables-skip-reads
 use Rattle.schema.proofs.skip.+content_skip+field_len+fields_skip+schema_len+union_skip+variants_skip.{statement}
 use Rattle.schema.proofs.skip.+content_skip+field_len+fields_skip+schema_len+union_skip+variants_skip.Tie.{close}
 
@@ -110,22 +110,22 @@ abbrev schema-len-claims : ℕ → schema-len-lts.Claims
 schema-len-claims t = (is-bare-reads.Asked, is-bare-reads.Learnt, content-skip-below t, content-skip.Post)
 
 abbrev union-skip-claims : ℕ → union-skip-lts.Claims
-union-skip-claims t = (variants-skip-below t, variants-skip.Post, leads-skip-reads.Asked, leads-skip-reads.Learnt, positions-skip-reads.Asked, positions-skip-reads.Learnt)
+union-skip-claims t = (variants-skip-below t, variants-skip.Post, tables-skip-reads.Asked, tables-skip-reads.Learnt)
 
 abbrev variants-skip-claims : ℕ → variants-skip-lts.Claims
 variants-skip-claims t = (read2-reads.Asked, read2-reads.Learnt, schema-len-below t, schema-len.Post)
 
 content-skip-schema-len-requires : (t : ℕ) → content-skip-lts.Need-schema-len-requires (content-skip-claims t) (content-skip-at t) content-skip.Post
-content-skip-schema-len-requires t c κs = (omega arith, array-known _ _ (rw (c .if1 .taken) at (c .before .before .pre .1)))
+content-skip-schema-len-requires t c κs = (omega arith, array-known _ _ _ (rw (c .if1 .taken) at (c .before .before .pre .1)))
 
 content-skip-returns : (t : ℕ) → content-skip-lts.Need-returns (content-skip-claims t) (content-skip-at t) content-skip.Post
-content-skip-returns t c = rw (c .before .if1 .taken) (array-spans _ _ (rw (c .before .if1 .taken) at (c .before .before .before .pre .1)) _ (c .schema-len .ensures))
+content-skip-returns t c = rw (c .before .if1 .taken) (array-spans _ _ _ (rw (c .before .if1 .taken) at (c .before .before .before .pre .1)) _ (c .schema-len .ensures))
 
 content-skip-schema-len-requires-2 : (t : ℕ) → content-skip-lts.Need-schema-len-requires-2 (content-skip-claims t) (content-skip-at t) content-skip.Post
-content-skip-schema-len-requires-2 t c κs = (omega arith, map-known _ _ (rw (c .if2 .taken) at (c .before .before .before .pre .1)))
+content-skip-schema-len-requires-2 t c κs = (omega arith, map-known _ _ _ (rw (c .if2 .taken) at (c .before .before .before .pre .1)))
 
 content-skip-returns-2 : (t : ℕ) → content-skip-lts.Need-returns-2 (content-skip-claims t) (content-skip-at t) content-skip.Post
-content-skip-returns-2 t c = rw (c .before .if2 .taken) (map-spans _ _ (rw (c .before .if2 .taken) at (c .before .before .before .before .pre .1)) _ (c .schema-len2 .ensures))
+content-skip-returns-2 t c = rw (c .before .if2 .taken) (map-spans _ _ _ (rw (c .before .if2 .taken) at (c .before .before .before .before .pre .1)) _ (c .schema-len2 .ensures))
 
 content-skip-union-skip-requires : (t : ℕ) → content-skip-lts.Need-union-skip-requires (content-skip-claims t) (content-skip-at t) content-skip.Post
 content-skip-union-skip-requires t c κs = (omega arith, rw (c .if3 .taken) at (c .before .before .before .before .pre .1))
@@ -134,22 +134,22 @@ content-skip-returns-3 : (t : ℕ) → content-skip-lts.Need-returns-3 (content-
 content-skip-returns-3 t c = rw (c .before .if3 .taken) (c .union-skip .ensures)
 
 content-skip-fields-skip-requires : (t : ℕ) → content-skip-lts.Need-fields-skip-requires (content-skip-claims t) (content-skip-at t) content-skip.Post
-content-skip-fields-skip-requires t c κs = (omega arith, record-known _ _ (rw (c .if4 .taken) at (c .before .before .before .before .before .pre .1)))
+content-skip-fields-skip-requires t c κs = (omega arith, record-known _ _ _ (rw (c .if4 .taken) at (c .before .before .before .before .before .pre .1)))
 
 content-skip-returns-4 : (t : ℕ) → content-skip-lts.Need-returns-4 (content-skip-claims t) (content-skip-at t) content-skip.Post
-content-skip-returns-4 t c = rw (c .before .if4 .taken) (record-spans _ _ (rw (c .before .if4 .taken) at (c .before .before .before .before .before .before .pre .1)) _ (c .fields-skip .ensures))
+content-skip-returns-4 t c = rw (c .before .if4 .taken) (record-spans _ _ _ (rw (c .before .if4 .taken) at (c .before .before .before .before .before .before .pre .1)) _ (c .fields-skip .ensures))
 
 content-skip-enum-skip-requires : (t : ℕ) → content-skip-lts.Need-enum-skip-requires (content-skip-claims t) (content-skip-at t) content-skip.Post
-content-skip-enum-skip-requires t c κs = enum-known _ _ (rw (c .if5 .taken) at (c .before .before .before .before .before .before .pre .1))
+content-skip-enum-skip-requires t c κs = enum-known _ _ _ (rw (c .if5 .taken) at (c .before .before .before .before .before .before .pre .1))
 
 content-skip-returns-5 : (t : ℕ) → content-skip-lts.Need-returns-5 (content-skip-claims t) (content-skip-at t) content-skip.Post
-content-skip-returns-5 t c = rw (c .before .if5 .taken) (enum-spans _ _ (rw (c .before .if5 .taken) at (c .before .before .before .before .before .before .before .pre .1)) _ (c .enum-skip .ensures))
+content-skip-returns-5 t c = rw (c .before .if5 .taken) (enum-spans _ _ _ (rw (c .before .if5 .taken) at (c .before .before .before .before .before .before .before .pre .1)) _ (c .enum-skip .ensures))
 
 content-skip-leaf-skip-requires : (t : ℕ) → content-skip-lts.Need-leaf-skip-requires (content-skip-claims t) (content-skip-at t) content-skip.Post
-content-skip-leaf-skip-requires t c κs = ((λ h. omega (arith, c .before .before .before .before .if1 .left, c .before .before .before .if2 .left, c .before .before .if3 .left, c .before .if4 .left)), reads-eq _ _ (leaf-content _ _ _ _ (λ h. omega (arith, c .before .before .before .before .if1 .left, c .before .before .before .if2 .left, c .before .before .if3 .left, c .before .if4 .left))) (c .before .before .before .before .before .before .pre .1))
+content-skip-leaf-skip-requires t c κs = ((λ h. omega (arith, c .before .before .before .before .if1 .left, c .before .before .before .if2 .left, c .before .before .if3 .left, c .before .if4 .left)), reads-eq _ _ (leaf-content _ _ _ _ _ _ (λ h. omega (arith, c .before .before .before .before .if1 .left, c .before .before .before .if2 .left, c .before .before .if3 .left, c .before .if4 .left))) (c .before .before .before .before .before .before .pre .1))
 
 content-skip-returns-6 : (t : ℕ) → content-skip-lts.Need-returns-6 (content-skip-claims t) (content-skip-at t) content-skip.Post
-content-skip-returns-6 t c = spans-eq _ _ _ _ (leaf-content _ _ _ _ (λ h. omega (arith, c .before .before .before .before .before .if1 .left, c .before .before .before .before .if2 .left, c .before .before .before .if3 .left, c .before .before .if4 .left))) (c .leaf-skip .ensures)
+content-skip-returns-6 t c = spans-eq _ _ _ _ (leaf-content _ _ _ _ _ _ (λ h. omega (arith, c .before .before .before .before .before .if1 .left, c .before .before .before .before .if2 .left, c .before .before .before .if3 .left, c .before .before .if4 .left))) (c .leaf-skip .ensures)
 
 field-len-content-requires : (t : ℕ) → field-len-lts.Need-content-requires (field-len-claims t) (field-len-at t) field-len.Post
 field-len-content-requires t c κs = reads-text _ (field-text _ _ (c .before .pre .1))
@@ -215,7 +215,7 @@ schema-len-shared-slice-read-kind : (t : ℕ) → schema-len-lts.Need-shared-sli
 schema-len-shared-slice-read-kind t c = schema-there (c .before .before .args .depth) (c .before .before .args .s .now) (c .before .before .pre .1) .1
 
 schema-len-returns : (t : ℕ) → schema-len-lts.Need-returns (schema-len-claims t) (schema-len-at t) schema-len.Post
-schema-len-returns t c = bare-spans (c .before .before .before .before .args .depth) (c .before .before .before .before .args .s .now) (c .before .before .before .before .pre .1) (sym (c .before .is-bare .ensures) ∙ c .if1 .taken)
+schema-len-returns t c = bare-spans _ (c .before .before .before .before .args .depth) (c .before .before .before .before .args .s .now) (c .before .before .before .before .pre .1) (sym (c .before .is-bare .ensures) ∙ c .if1 .taken)
 
 schema-len-sub-content-skip : (t : ℕ) → schema-len-lts.Need-sub-content-skip (schema-len-claims t) (schema-len-at t) schema-len.Post
 schema-len-sub-content-skip t c = schema-there (c .before .before .before .before .args .depth) (c .before .before .before .before .args .s .now) (c .before .before .before .before .pre .1) .1
@@ -227,43 +227,31 @@ schema-len-sub-content-skip-2 : (t : ℕ) → schema-len-lts.Need-sub-content-sk
 schema-len-sub-content-skip-2 t c = let z = schema-there (c .before .before .before .before .before .args .depth) (c .before .before .before .before .before .args .s .now) (c .before .before .before .before .before .pre .1) .0 in omega arith
 
 schema-len-content-skip-requires : (t : ℕ) → schema-len-lts.Need-content-skip-requires (schema-len-claims t) (schema-len-at t) schema-len.Post
-schema-len-content-skip-requires t c κs = let z = schema-there (c .before .before .before .before .before .args .depth) (c .before .before .before .before .before .args .s .now) (c .before .before .before .before .before .pre .1) .0 in (omega arith, rw part-to-end (known-content (c .before .before .before .before .before .args .depth) (c .before .before .before .before .before .args .s .now) (c .before .before .before .before .before .pre .1)))
+schema-len-content-skip-requires t c κs = let z = schema-there (c .before .before .before .before .before .args .depth) (c .before .before .before .before .before .args .s .now) (c .before .before .before .before .before .pre .1) .0 in (omega arith, rw part-to-end (known-content _ (c .before .before .before .before .before .args .depth) (c .before .before .before .before .before .args .s .now) (c .before .before .before .before .before .pre .1)))
 
 schema-len-add-result : (t : ℕ) → schema-len-lts.Need-add-result (schema-len-claims t) (schema-len-at t) schema-len.Post
 schema-len-add-result t c = omega (arith, schema-there (c .before .before .before .before .before .before .args .depth) (c .before .before .before .before .before .before .args .s .now) (c .before .before .before .before .before .before .pre .1) .1, spans-le _ _ _ (rw part-to-end at (c .content-skip .ensures)), length-drop 1 (c .before .before .before .before .before .before .args .s .now), c .before .before .before .before .before .before .good)
 
 schema-len-returns-2 : (t : ℕ) → schema-len-lts.Need-returns-2 (schema-len-claims t) (schema-len-at t) schema-len.Post
-schema-len-returns-2 t c = schema-spans (c .before .before .before .before .before .before .args .depth) (c .before .before .before .before .before .before .args .s .now) (c .before .before .before .before .before .before .pre .1) _ (rw part-to-end at (c .content-skip .ensures))
+schema-len-returns-2 t c = schema-spans _ (c .before .before .before .before .before .before .args .depth) (c .before .before .before .before .before .before .args .s .now) (c .before .before .before .before .before .before .pre .1) _ (rw part-to-end at (c .content-skip .ensures))
 
 union-skip-variants-skip-requires : (t : ℕ) → union-skip-lts.Need-variants-skip-requires (union-skip-claims t) (union-skip-at t) union-skip.Post
-union-skip-variants-skip-requires t c κs = (omega arith, union-variants _ _ (c .before .pre .1))
+union-skip-variants-skip-requires t c κs = (omega arith, union-variants _ _ _ (c .before .pre .1))
 
-union-skip-sub-leads-skip : (t : ℕ) → union-skip-lts.Need-sub-leads-skip (union-skip-claims t) (union-skip-at t) union-skip.Post
-union-skip-sub-leads-skip t c = spans-le _ _ _ (c .variants-skip .ensures)
+union-skip-sub-tables-skip : (t : ℕ) → union-skip-lts.Need-sub-tables-skip (union-skip-claims t) (union-skip-at t) union-skip.Post
+union-skip-sub-tables-skip t c = spans-le _ _ _ (c .variants-skip .ensures)
 
-union-skip-part-leads-skip-start : (t : ℕ) → union-skip-lts.Need-part-leads-skip-start (union-skip-claims t) (union-skip-at t) union-skip.Post
-union-skip-part-leads-skip-start t c = spans-le _ _ _ (c .variants-skip .ensures)
+union-skip-part-tables-skip-start : (t : ℕ) → union-skip-lts.Need-part-tables-skip-start (union-skip-claims t) (union-skip-at t) union-skip.Post
+union-skip-part-tables-skip-start t c = spans-le _ _ _ (c .variants-skip .ensures)
 
-union-skip-leads-skip-requires : (t : ℕ) → union-skip-lts.Need-leads-skip-requires (union-skip-claims t) (union-skip-at t) union-skip.Post
-union-skip-leads-skip-requires t c κs = rw part-to-end (union-leads _ _ (c .before .before .before .pre .1) _ (c .before .variants-skip .ensures))
-
-union-skip-add-e : (t : ℕ) → union-skip-lts.Need-add-e (union-skip-claims t) (union-skip-at t) union-skip.Post
-union-skip-add-e t c = omega (arith, spans-le _ _ _ (c .before .before .variants-skip .ensures), spans-le _ _ _ (rw part-to-end at (c .leads-skip .ensures)), length-drop (c .before .before .variants-skip .result) (c .before .before .before .before .args .s .now), c .before .before .before .before .good)
-
-union-skip-sub-positions-skip : (t : ℕ) → union-skip-lts.Need-sub-positions-skip (union-skip-claims t) (union-skip-at t) union-skip.Post
-union-skip-sub-positions-skip t c = omega (arith, spans-le _ _ _ (c .before .before .variants-skip .ensures), spans-le _ _ _ (rw part-to-end at (c .leads-skip .ensures)), length-drop (c .before .before .variants-skip .result) (c .before .before .before .before .args .s .now))
-
-union-skip-part-positions-skip-start : (t : ℕ) → union-skip-lts.Need-part-positions-skip-start (union-skip-claims t) (union-skip-at t) union-skip.Post
-union-skip-part-positions-skip-start t c = omega (arith, spans-le _ _ _ (c .before .before .variants-skip .ensures), spans-le _ _ _ (rw part-to-end at (c .leads-skip .ensures)), length-drop (c .before .before .variants-skip .result) (c .before .before .before .before .args .s .now))
-
-union-skip-positions-skip-requires : (t : ℕ) → union-skip-lts.Need-positions-skip-requires (union-skip-claims t) (union-skip-at t) union-skip.Post
-union-skip-positions-skip-requires t c κs = rw part-to-end (union-positions _ _ (c .before .before .before .before .before .pre .1) _ (c .before .before .before .variants-skip .ensures) _ (rw part-to-end at (c .before .leads-skip .ensures)))
+union-skip-tables-skip-requires : (t : ℕ) → union-skip-lts.Need-tables-skip-requires (union-skip-claims t) (union-skip-at t) union-skip.Post
+union-skip-tables-skip-requires t c κs = rw part-to-end (union-tables _ _ _ (c .before .before .before .pre .1) _ (c .before .variants-skip .ensures))
 
 union-skip-add-result : (t : ℕ) → union-skip-lts.Need-add-result (union-skip-claims t) (union-skip-at t) union-skip.Post
-union-skip-add-result t c = omega (arith, spans-le _ _ _ (c .before .before .before .before .variants-skip .ensures), spans-le _ _ _ (rw part-to-end at (c .before .before .leads-skip .ensures)), length-drop (c .before .before .before .before .variants-skip .result) (c .before .before .before .before .before .before .args .s .now), spans-le _ _ _ (rw part-to-end at (c .positions-skip .ensures)), length-drop (c .before .before .before .before .variants-skip .result + c .before .before .leads-skip .result) (c .before .before .before .before .before .before .args .s .now), c .before .before .before .before .before .before .good)
+union-skip-add-result t c = omega (arith, spans-le _ _ _ (c .before .before .variants-skip .ensures), spans-le _ _ _ (rw part-to-end at (c .tables-skip .ensures [])), length-drop (c .before .before .variants-skip .result) (c .before .before .before .before .args .s .now), c .before .before .before .before .good)
 
 union-skip-returns : (t : ℕ) → union-skip-lts.Need-returns (union-skip-claims t) (union-skip-at t) union-skip.Post
-union-skip-returns t c = union-spans _ _ (c .before .before .before .before .before .before .pre .1) _ (c .before .before .before .before .variants-skip .ensures) _ (rw part-to-end at (c .before .before .leads-skip .ensures)) _ (rw part-to-end at (c .positions-skip .ensures))
+union-skip-returns t c = union-spans _ _ _ (c .before .before .before .before .pre .1) _ _ (c .before .before .variants-skip .ensures) (λ vs. rw part-to-end at (c .tables-skip .ensures vs))
 
 abbrev variants-skip-Inv-loop : variants-skip-lts.InvT-loop
 variants-skip-Inv-loop s depth left₀ at₀ left at = Walking (readSchema depth) s at left
@@ -301,5 +289,5 @@ pub +content-skip+field-len+fields-skip+schema-len+union-skip+variants-skip-spec
     (λ t. field-len-lts.spec (field-len-claims t) (field-len-at t) field-len.Post (field-len-content-requires t) (λ c. search needs) (field-len-sub-default-skip t) (field-len-part-default-skip-start t) (λ c. search needs) (field-len-default-skip-requires t) (field-len-add-e t) (field-len-sub-schema-len t) (field-len-part-schema-len-start t) (λ c. search needs) (field-len-schema-len-requires t) (field-len-add-result t) (field-len-returns t))
     (λ t. fields-skip-lts.spec (fields-skip-claims t) (fields-skip-at t) fields-skip.Post fields-skip-Inv-loop fields-skip-μ-loop (fields-skip-read2-requires t) (fields-skip-loop-holds t) (fields-skip-sub-field-len t) (fields-skip-part-field-len-start t) (λ c. search needs) (fields-skip-field-len-requires t) (fields-skip-add-at t) (λ c. search needs) (λ c. search needs) (fields-skip-loop-again t) (fields-skip-returns t))
     (λ t. schema-len-lts.spec (schema-len-claims t) (schema-len-at t) schema-len.Post (schema-len-shared-slice-read-kind t) (λ c κs. search needs) (schema-len-returns t) (schema-len-sub-content-skip t) (schema-len-part-content-skip-start t) (λ c. search needs) (schema-len-sub-content-skip-2 t) (schema-len-content-skip-requires t) (schema-len-add-result t) (schema-len-returns-2 t))
-    (λ t. union-skip-lts.spec (union-skip-claims t) (union-skip-at t) union-skip.Post (union-skip-variants-skip-requires t) (union-skip-sub-leads-skip t) (union-skip-part-leads-skip-start t) (λ c. search needs) (union-skip-leads-skip-requires t) (union-skip-add-e t) (union-skip-sub-positions-skip t) (union-skip-part-positions-skip-start t) (λ c. search needs) (union-skip-positions-skip-requires t) (union-skip-add-result t) (union-skip-returns t))
+    (λ t. union-skip-lts.spec (union-skip-claims t) (union-skip-at t) union-skip.Post (union-skip-variants-skip-requires t) (union-skip-sub-tables-skip t) (union-skip-part-tables-skip-start t) (λ c. search needs) (union-skip-tables-skip-requires t) (union-skip-add-result t) (union-skip-returns t))
     λ t. variants-skip-lts.spec (variants-skip-claims t) (variants-skip-at t) variants-skip.Post variants-skip-Inv-loop variants-skip-μ-loop (variants-skip-read2-requires t) (variants-skip-loop-holds t) (variants-skip-sub-schema-len t) (variants-skip-part-schema-len-start t) (λ c. search needs) (variants-skip-schema-len-requires t) (variants-skip-add-at t) (λ c. search needs) (λ c. search needs) (variants-skip-loop-again t) (variants-skip-returns t)

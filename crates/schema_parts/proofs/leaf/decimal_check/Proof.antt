@@ -9,7 +9,7 @@ use Rattle.schema_parts.proofs.leaf.decimal_check.Statement.{statement}
 use Rattle.schema_parts.proofs.leaf.decimal_check.Tie as tie
 
 returns : tie.Need-returns
-returns c = λ node. checks-none _ _ _ (decimal-none node _ (c .if1 .taken))
+returns c = λ form node. checks-none _ _ _ (decimal-none form node _ (c .if1 .taken))
 
 sub-option-size-len : tie.Need-sub-option-size-len
 sub-option-size-len c = search needs
@@ -30,13 +30,13 @@ enum-told : tie.Need-enum-told
 enum-told c = search needs
 
 returns-2 : tie.Need-returns-2
-returns-2 c = λ node. checks-none _ _ _ (decimal-later node _ (c .before .before .before .before .if1 .left) (measured-broken _ _ (rw (c .enum-told .given .1, part-to-end) at (c .before .before .option-size-len .ensures))))
+returns-2 c = λ form node. checks-none _ _ _ (decimal-later form node _ (c .before .before .before .before .if1 .left) (measured-broken _ _ (rw (c .enum-told .given .1, part-to-end) at (c .before .before .option-size-len .ensures))))
 
 add-t3 : tie.Need-add-t3
 add-t3 c = let h = long _ _ _ (rw (c .before .m .given .1, part-to-end) at (c .before .before .before .option-size-len .ensures)) in omega (arith, h .inside, length-drop 8 (c .before .before .before .before .before .before .before .args .s .now), c .before .before .before .before .before .before .before .good)
 
 returns-3 : tie.Need-returns-3
-returns-3 c = λ node. decimal-checks node _ (c .before .before .before .before .before .if1 .left) _ (rw (c .before .m .given .1, part-to-end) at (c .before .before .before .option-size-len .ensures))
+returns-3 c = λ form node. decimal-checks form node _ (c .before .before .before .before .before .if1 .left) _ (rw (c .before .m .given .1, part-to-end) at (c .before .before .before .option-size-len .ensures))
 
 pub decimal-check-spec : {M : Type 1} → statement M
 decimal-check-spec =

@@ -9,14 +9,14 @@ use Rattle.schema_parts.proofs.leaf.duration_check.Statement.{statement
 use Rattle.schema_parts.proofs.leaf.duration_check.Tie as tie
 
 returns : tie.Need-returns
-returns c = λ node. checks-none _ _ _ (duration-none node _ (c .if1 .taken))
+returns c = λ form node. checks-none _ _ _ (duration-none form node _ (c .if1 .taken))
 
 read2-requires : tie.Need-read2-requires
 read2-requires c κs = search needs
 
 returns-2 : tie.Need-returns-2
 unfolding schemaSound
-returns-2 c = λ node. checks-some _ _ _ _ _ (c .before .if1 .left) _ (duration-got node _ (c .before .if1 .left)) (ap (λ n. eqb n 12) (c .read2 .ensures))
+returns-2 c = λ form node. checks-some _ _ _ _ _ (c .before .if1 .left) _ (duration-got form node _ (c .before .if1 .left)) (ap (λ n. eqb n 12) (c .read2 .ensures))
 
 pub duration-check-spec : {M : Type 1} → statement M
 duration-check-spec = tie.close (tie.spec returns read2-requires returns-2)

@@ -18,7 +18,7 @@ enum-told : tie.Need-enum-told
 enum-told c = search needs
 
 returns : tie.Need-returns
-returns c = λ node. checks-none _ _ _ (enum-none node _ (measured-broken _ _ (rw (c .enum-told .given .1) at (c .before .before .texts-measured .ensures))))
+returns c = λ form node. checks-none _ _ _ (enum-none form node _ (measured-broken _ _ (rw (c .enum-told .given .1) at (c .before .before .texts-measured .ensures))))
 
 sub-option-text-len : tie.Need-sub-option-text-len
 sub-option-text-len c = omega (arith, (long _ _ _ (rw (c .before .a .given .1) at (c .before .before .before .texts-measured .ensures))) .inside)
@@ -39,7 +39,7 @@ enum-told-2 : tie.Need-enum-told-2
 enum-told-2 c = search needs
 
 returns-2 : tie.Need-returns-2
-returns-2 c = λ node. checks-none _ _ _ (enum-broken node _ _ (rw (c .before .before .before .before .before .a .given .1) at (c .before .before .before .before .before .before .before .texts-measured .ensures)) (rw (c .enum-told2 .given .1, part-to-end) at (c .before .before .option-text-len .ensures)))
+returns-2 c = λ form node. checks-none _ _ _ (enum-broken form node _ _ (rw (c .before .before .before .before .before .a .given .1) at (c .before .before .before .before .before .before .before .texts-measured .ensures)) (rw (c .enum-told2 .given .1, part-to-end) at (c .before .before .option-text-len .ensures)))
 
 add-t7 : tie.Need-add-t7
 add-t7 c = let h = long _ _ _ (rw (c .before .before .before .before .before .before .a .given .1) at (c .before .before .before .before .before .before .before .before .texts-measured .ensures)) in
@@ -47,7 +47,7 @@ add-t7 c = let h = long _ _ _ (rw (c .before .before .before .before .before .be
     omega (arith, h .inside, g .inside, length-drop (c .before .before .before .before .before .before .a .given .0 .0) (c .before .before .before .before .before .before .before .before .before .before .args .s .now), c .before .before .before .before .before .before .before .before .before .before .good)
 
 returns-3 : tie.Need-returns-3
-returns-3 c = λ node. enum-checks node _ _ _ (rw (c .before .before .before .before .before .before .a .given .1) at (c .before .before .before .before .before .before .before .before .texts-measured .ensures)) (rw (c .before .b .given .1, part-to-end) at (c .before .before .before .option-text-len .ensures))
+returns-3 c = λ form node. enum-checks form node _ _ _ (rw (c .before .before .before .before .before .before .a .given .1) at (c .before .before .before .before .before .before .before .before .texts-measured .ensures)) (rw (c .before .b .given .1, part-to-end) at (c .before .before .before .option-text-len .ensures))
 
 pub enum-check-spec : {M : Type 1} → statement M
 enum-check-spec =
