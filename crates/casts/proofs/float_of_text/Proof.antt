@@ -1,0 +1,47 @@
+-- One of the five texts is a Float, and any other is refused.
+use mathlib.Core.Path.{refl}
+use borrow.Author.Needs.{needs}
+use Rattle.scalar.specs.Conversion.{parse-special-float}
+use Rattle.types.specs.Types.{special}
+use Rattle.types.proofs.NodeLaws.{encode-wide, wrote-value, wrote-refusal}
+use Rattle.types.proofs.ScalarLaws.{float-content, special-bits, special-none}
+use Rattle.frame.specs.Kind
+use Rattle.casts.proofs.float_of_text.Statement.{statement}
+use Rattle.casts.proofs.float_of_text.Tie as tie
+
+content-requires : tie.Need-content-requires
+content-requires c κs = search needs
+
+parse-special-float-requires : tie.Need-parse-special-float-requires
+parse-special-float-requires c κs = search needs
+
+enum-known-b : tie.Need-enum-known-b
+enum-known-b c = search needs
+
+put-node4-requires : tie.Need-put-node4-requires
+put-node4-requires c κs = search needs
+
+same-length : tie.Need-same-length
+same-length c = search needs
+
+returns : tie.Need-returns
+returns c = wrote-value (λ t. special Kind.Float (λ b. b) (parse-special-float t)) _ _ _ (c .before .before .before .before .before .before .before .before .content .ensures .0) _ _ _ _ (special-bits 4 (λ b. b) _ _ _ _ (c .before .before .before .before .before .before .before .parse-special-float .ensures) (c .before .before .before .before .before .b .given .1) refl) (encode-wide 4 4 _ float-content) (c .before .before .put-node4 .ensures)
+
+enum-told : tie.Need-enum-told
+enum-told c = search needs
+
+returns-2 : tie.Need-returns-2
+returns-2 c = wrote-refusal (λ t. special Kind.Float (λ b. b) (parse-special-float t)) _ _ _ (c .before .before .before .content .ensures .0) _ 6 (special-none 4 (λ b. b) _ _ (c .before .before .parse-special-float .ensures) (c .enum-told .given .1))
+
+pub float-of-text-spec : {M : Type 1} → statement M
+float-of-text-spec =
+    tie.close
+    (tie.spec
+    content-requires
+    parse-special-float-requires
+    enum-known-b
+    put-node4-requires
+    same-length
+    returns
+    enum-told
+    returns-2)
