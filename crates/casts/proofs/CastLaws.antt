@@ -1,7 +1,7 @@
 -- A node that holds a number or a time, read as a scalar; and the conversions of scalars as the resolve_ functions that they serve.
-use Prim.Native.Nat.{ℕ, _+_, _%_, _^_, _≤_, _<_}
+use Prim.Native.Nat.{ℕ, suc, _+_, _%_, _^_, _≤_, _<_}
 use mathlib.Core.Path.{_≡_, refl, sym, ap, _∙_, subst}
-use mathlib.Core.List.{List, _∷_}
+use mathlib.Core.List.{List, _∷_, _++_, append-nil}
 use mathlib.Core.Option.{some}
 use mathlib.Core.Bool.{Bool, true, false, _||_, true≢false}
 use native.Mathlib.Nat.{mod-eq-of-lt}
@@ -10,9 +10,10 @@ use borrow.Author.Tests.{eq-eqb, ne-eqb, lt-ltb, le-ltb, le-leb, eqb-true, eqb-f
 use lib.Dec.{T, eqb, ltb}
 use lib.IntN.{ℤ}
 use lib.ListN.{length, getD, drop}
-use Rattle.base.specs.Base.{if_then_else_, Result, ok, stop}
-use Rattle.number.specs.Number.{allBytes, numberAt, bytesOf}
-use Rattle.number.proofs.Laws.{numberAt-<, bytesOf-mod}
+use lib.Seq.{drop-length}
+use Rattle.base.specs.Base.{if_then_else_, ok, stop}
+use Rattle.number.specs.Number.{allBytes, numberAt, bytesOf, written}
+use Rattle.number.proofs.Laws.{numberAt-<, length-bytesOf, bytesOf-mod}
 use Rattle.text.specs.Measured.{Reads}
 use Rattle.rounding.specs.Rounding.{ofTwos, toTwos}
 use Rattle.scalar.specs.Conversion.{longOfInt, inInt, intOfLong}
@@ -36,8 +37,9 @@ use Rattle.buffer.specs.declared.Answer.{Answer}
 use Rattle.buffer.specs.declared.Answer.the-variants.{Accepted, Refused}
 use Rattle.types.specs.Types.{Outcome, resolve-int, resolve-long, resolveIntTime, resolveLongTime, resolvePlain}
 use Rattle.types.specs.Contract.{encoded, onRead, valueOf, scalarOf, castOutcome}
-use Rattle.types.proofs.NodeLaws.{wide-node, encode-wide, wrote-ok, wrote-stop, kind-refused}
-use Rattle.types.proofs.ScalarLaws.{int-content, long-content, float-content, double-content, short-time-content, long-time-content, int-refused, long-refused, int-time-refused, long-time-refused, plain-int-time, plain-long-time}
+use Rattle.types.proofs.Contents.{int-content, long-content, float-content, double-content, short-time-content, long-time-content}
+use Rattle.types.proofs.NodeLaws.{wide-node, encode-wide, wrote-ok, wrote-stop}
+use Rattle.types.proofs.ScalarLaws.{int-refused, long-refused, int-time-refused, long-time-refused, plain-int-time, plain-long-time}
 
 -- ---- the width of a kind
 
@@ -68,6 +70,13 @@ kind-content (LocalTimestampMicros z) = refl
 kind-content (LocalTimestampNanos z) = refl
 
 -- ---- a scalar's node
+
+-- a kind and the w bytes of a number, put into an array of as many behind the kind
+pub node-written : (k w n : ℕ) (z : List ℕ) → length z ≡ w → written (k ∷ z) 1 (bytesOf w n) ≡ k ∷ bytesOf w n
+unfolding written
+node-written k w n z h =
+    let i : 1 + length (bytesOf w n) ≡ suc (length z) = omega (arith, length-bytesOf w n) in
+    ap (λ (x : List ℕ). k ∷ (bytesOf w n ++ x)) (ap (λ (m : ℕ). drop m (k ∷ z)) i ∙ drop-length z) ∙ ap (λ (x : List ℕ). k ∷ x) (append-nil (bytesOf w n))
 
 module _ (s : Scalar) (k n : ℕ) (e : k ≡ Scalars.kindOf s) (f : n ≡ contentOf s) where
   node-is : encodeValue (valueOf s) ≡ k ∷ bytesOf (widthOf k) n

@@ -30,8 +30,9 @@ use Rattle.symbols.specs.declared.Place.the-variants.{At, Nowhere}
 use Rattle.types.specs.Types.{position, enumAt, orDefault, validate-symbol, resolve-enum}
 use Rattle.types.specs.Contract.{encoded, onRead, onBoth}
 use Rattle.symbols.specs.Search.{placeFrom, placeIn, defaultOf, resolveEnumAt}
+use Rattle.types.proofs.Contents.{enum-content}
 use Rattle.types.proofs.NodeLaws.{wrote-ok, wrote-stop}
-use Rattle.types.proofs.PartLaws.{content-Enum, length-bytes}
+use Rattle.types.proofs.PartLaws.{length-bytes}
 
 -- ---- places
 
@@ -205,7 +206,7 @@ enum-symbol i t ss q = refl
 module _ (d : ℕ) (v : List ℕ) (p : Reads (readValue d v)) (h : getD v 0 0 ≡ Kind.Enum) where
   symbol-opened : readValue d v ≡ (readNumber 4 (drop 1 v) >>= (λ x. mapRead (Value.Enum (x .0)) (readText (x .1))))
   unfolding readContent
-  symbol-opened = value-content d v p Kind.Enum symbol content-Enum h
+  symbol-opened = value-content d v p Kind.Enum symbol enum-content h
 
   pub symbol-there : 5 ≤ length v
   symbol-there = omega (arith, reads-number 4 (drop 1 v) (reads-first (readNumber 4 (drop 1 v)) _ (subst Reads symbol-opened p)), length-drop 1 v, value-there d v p .1)

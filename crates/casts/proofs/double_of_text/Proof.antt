@@ -1,10 +1,6 @@
 -- One of the five texts is a Double, and any other is refused.
 use borrow.Author.Needs.{needs}
-use Rattle.scalar.specs.Conversion.{parse-special-float, doubleOfFloat}
-use Rattle.types.specs.Types.{special}
-use Rattle.types.proofs.NodeLaws.{encode-wide, wrote-value, wrote-refusal}
-use Rattle.types.proofs.ScalarLaws.{double-content, special-bits, special-none}
-use Rattle.frame.specs.Kind
+use Rattle.casts.proofs.FloatLaws.{to-double, bits-way, none-way}
 use Rattle.casts.proofs.double_of_text.Statement.{statement}
 use Rattle.casts.proofs.double_of_text.Tie as tie
 
@@ -27,13 +23,13 @@ same-length : tie.Need-same-length
 same-length c = search needs
 
 returns : tie.Need-returns
-returns c = wrote-value (λ t. special Kind.Double doubleOfFloat (parse-special-float t)) _ _ _ (c .before .before .before .before .before .before .before .before .before .content .ensures .0) _ _ _ _ (special-bits 5 doubleOfFloat _ _ _ _ (c .before .before .before .before .before .before .before .before .parse-special-float .ensures) (c .before .before .before .before .before .before .b .given .1) (c .before .before .before .float-to-double .ensures)) (encode-wide 5 8 _ double-content) (c .before .before .put-node8 .ensures)
+returns c = bits-way to-double _ _ _ (c .before .before .before .before .before .before .before .before .before .content .ensures .0) _ (c .before .before .before .before .before .before .before .before .parse-special-float .ensures) _ _ _ (c .before .before .before .before .before .before .b .given .1) (c .before .before .before .float-to-double .ensures) _ (c .before .before .put-node8 .ensures)
 
 enum-told : tie.Need-enum-told
 enum-told c = search needs
 
 returns-2 : tie.Need-returns-2
-returns-2 c = wrote-refusal (λ t. special Kind.Double doubleOfFloat (parse-special-float t)) _ _ _ (c .before .before .before .content .ensures .0) _ 6 (special-none 5 doubleOfFloat _ _ (c .before .before .parse-special-float .ensures) (c .enum-told .given .1))
+returns-2 c = none-way to-double _ _ _ (c .before .before .before .content .ensures .0) _ (c .before .before .parse-special-float .ensures) _ (c .enum-told .given .1)
 
 pub double-of-text-spec : {M : Type 1} → statement M
 double-of-text-spec =

@@ -1,11 +1,7 @@
 -- One of the five texts is a Float, and any other is refused.
 use mathlib.Core.Path.{refl}
 use borrow.Author.Needs.{needs}
-use Rattle.scalar.specs.Conversion.{parse-special-float}
-use Rattle.types.specs.Types.{special}
-use Rattle.types.proofs.NodeLaws.{encode-wide, wrote-value, wrote-refusal}
-use Rattle.types.proofs.ScalarLaws.{float-content, special-bits, special-none}
-use Rattle.frame.specs.Kind
+use Rattle.casts.proofs.FloatLaws.{to-float, bits-way, none-way}
 use Rattle.casts.proofs.float_of_text.Statement.{statement}
 use Rattle.casts.proofs.float_of_text.Tie as tie
 
@@ -25,13 +21,13 @@ same-length : tie.Need-same-length
 same-length c = search needs
 
 returns : tie.Need-returns
-returns c = wrote-value (λ t. special Kind.Float (λ b. b) (parse-special-float t)) _ _ _ (c .before .before .before .before .before .before .before .before .content .ensures .0) _ _ _ _ (special-bits 4 (λ b. b) _ _ _ _ (c .before .before .before .before .before .before .before .parse-special-float .ensures) (c .before .before .before .before .before .b .given .1) refl) (encode-wide 4 4 _ float-content) (c .before .before .put-node4 .ensures)
+returns c = bits-way to-float _ _ _ (c .before .before .before .before .before .before .before .before .content .ensures .0) _ (c .before .before .before .before .before .before .before .parse-special-float .ensures) _ _ _ (c .before .before .before .before .before .b .given .1) refl _ (c .before .before .put-node4 .ensures)
 
 enum-told : tie.Need-enum-told
 enum-told c = search needs
 
 returns-2 : tie.Need-returns-2
-returns-2 c = wrote-refusal (λ t. special Kind.Float (λ b. b) (parse-special-float t)) _ _ _ (c .before .before .before .content .ensures .0) _ 6 (special-none 4 (λ b. b) _ _ (c .before .before .parse-special-float .ensures) (c .enum-told .given .1))
+returns-2 c = none-way to-float _ _ _ (c .before .before .before .content .ensures .0) _ (c .before .before .parse-special-float .ensures) _ (c .enum-told .given .1)
 
 pub float-of-text-spec : {M : Type 1} → statement M
 float-of-text-spec =

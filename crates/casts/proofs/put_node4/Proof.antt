@@ -1,7 +1,8 @@
 -- A kind and 4 bytes are put together in an array, and the array is written.
-use mathlib.Core.Path.{_∙_}
+use mathlib.Core.Path.{refl, _∙_}
 use borrow.Author.Needs.{needs}
-use Rattle.types.proofs.NodeLaws.{node-written4, built-same}
+use Rattle.types.proofs.NodeLaws.{built-same}
+use Rattle.casts.proofs.CastLaws.{node-written}
 use Rattle.casts.proofs.put_node4.Statement.{statement}
 use Rattle.casts.proofs.put_node4.Tie as tie
 
@@ -21,7 +22,7 @@ same-length : tie.Need-same-length
 same-length c = search needs
 
 returns : tie.Need-returns
-returns c = built-same _ _ _ _ (c .before .before .before .before .before .before .put4 .ensures ∙ node-written4 _ _) (c .before .before .put .ensures)
+returns c = built-same _ _ _ _ (c .before .before .before .before .before .before .put4 .ensures ∙ node-written _ _ _ _ refl) (c .before .before .put .ensures)
 
 pub put-node4-spec : {M : Type 1} → statement M
 put-node4-spec =

@@ -4,8 +4,9 @@ use borrow.Author.Needs.{needs}
 use Rattle.number.proofs.Laws.{getD-allBytes}
 use Rattle.frame.proofs.ValueNodes.{value-there}
 use Rattle.types.specs.Types.{resolve-boolean}
+use Rattle.types.proofs.Contents.{boolean-content}
 use Rattle.types.proofs.NodeLaws.{flag-front, flag-kept, kind-refused}
-use Rattle.types.proofs.ScalarLaws.{boolean-content, boolean-kept, boolean-refused}
+use Rattle.types.proofs.ScalarLaws.{boolean-kept, boolean-refused}
 use Rattle.casts.proofs.resolve_boolean.Statement.{statement}
 use Rattle.casts.proofs.resolve_boolean.Tie as tie
 

@@ -7,12 +7,10 @@ use borrow.Rule.Slice.PartAt.{part-to-end}
 use Rattle.number.proofs.Laws.{getD-allBytes}
 use Rattle.text.specs.Read.{readCounted}
 use Rattle.text.specs.Measured.{Reads}
-use Rattle.scalar.specs.Conversion.{doubleOfFloat, parse-special-float}
-use Rattle.frame.specs.Kind
 use Rattle.frame.proofs.ValueNodes.{value-there}
-use Rattle.types.specs.Types.{special, resolve-double}
-use Rattle.types.proofs.NodeLaws.{wide-node, text-node, wide-made, kind-refused, text-answered}
-use Rattle.types.proofs.ScalarLaws.{int-content, long-content, float-content, double-content, string-content, double-of-int, double-of-long, double-of-float, double-of-double, double-of-text, double-refused}
+use Rattle.types.proofs.Contents.{int-content, long-content, float-content, double-content, string-content}
+use Rattle.types.proofs.NodeLaws.{wide-node, text-reads-counted}
+use Rattle.casts.proofs.FloatLaws.{to-double, int-way, long-way, float-way, double-way, text-way, other-way}
 use borrow.Author.Needs.{needs}
 use Rattle.casts.proofs.resolve_double.Statement.{statement}
 use Rattle.casts.proofs.resolve_double.Tie as tie
@@ -33,7 +31,7 @@ same-length : tie.Need-same-length
 same-length c = search needs
 
 returns : tie.Need-returns
-returns c = wide-made resolve-double _ _ (c .before .before .before .before .before .before .before .before .before .before .pre) 2 4 _ 5 8 _ int-content (c .before .before .before .before .before .before .if1 .taken) (c .before .before .before .before .read4 .ensures) double-content (double-of-int _ _ (c .before .before .before .int-to-double .ensures)) _ _ (c .before .before .put-node8 .ensures)
+returns c = int-way to-double _ _ (c .before .before .before .before .before .before .before .before .before .before .pre) (c .before .before .before .before .before .before .if1 .taken) _ _ (c .before .before .before .before .read4 .ensures) (c .before .before .before .int-to-double .ensures) _ _ (c .before .before .put-node8 .ensures)
 
 read8-requires : tie.Need-read8-requires
 read8-requires c κs = wide-node _ _ (c .before .before .before .before .before .before .pre) 3 8 long-content (c .before .if2 .taken) .0
@@ -48,7 +46,7 @@ same-length-2 : tie.Need-same-length-2
 same-length-2 c = search needs
 
 returns-2 : tie.Need-returns-2
-returns-2 c = wide-made resolve-double _ _ (c .before .before .before .before .before .before .before .before .before .before .before .pre) 3 8 _ 5 8 _ long-content (c .before .before .before .before .before .before .if2 .taken) (c .before .before .before .before .read8 .ensures) double-content (double-of-long _ _ (c .before .before .before .long-to-double .ensures)) _ _ (c .before .before .put-node82 .ensures)
+returns-2 c = long-way to-double _ _ (c .before .before .before .before .before .before .before .before .before .before .before .pre) (c .before .before .before .before .before .before .if2 .taken) _ _ (c .before .before .before .before .read8 .ensures) (c .before .before .before .long-to-double .ensures) _ _ (c .before .before .put-node82 .ensures)
 
 read4-requires-2 : tie.Need-read4-requires-2
 read4-requires-2 c κs = wide-node _ _ (c .before .before .before .before .before .before .before .pre) 4 4 float-content (c .before .if3 .taken) .0
@@ -63,7 +61,7 @@ same-length-3 : tie.Need-same-length-3
 same-length-3 c = search needs
 
 returns-3 : tie.Need-returns-3
-returns-3 c = wide-made resolve-double _ _ (c .before .before .before .before .before .before .before .before .before .before .before .before .pre) 4 4 _ 5 8 _ float-content (c .before .before .before .before .before .before .if3 .taken) (c .before .before .before .before .read42 .ensures) double-content (double-of-float _ _ (c .before .before .before .float-to-double .ensures)) _ _ (c .before .before .put-node83 .ensures)
+returns-3 c = float-way to-double _ _ (c .before .before .before .before .before .before .before .before .before .before .before .before .pre) (c .before .before .before .before .before .before .if3 .taken) _ _ (c .before .before .before .before .read42 .ensures) (c .before .before .before .float-to-double .ensures) _ _ (c .before .before .put-node83 .ensures)
 
 read8-requires-2 : tie.Need-read8-requires-2
 read8-requires-2 c κs = wide-node _ _ (c .before .before .before .before .before .before .before .before .pre) 5 8 double-content (c .before .if4 .taken) .0
@@ -78,7 +76,7 @@ same-length-4 : tie.Need-same-length-4
 same-length-4 c = search needs
 
 returns-4 : tie.Need-returns-4
-returns-4 c = wide-made resolve-double _ _ (c .before .before .before .before .before .before .before .before .before .before .before .before .before .pre) 5 8 _ 5 8 _ double-content (c .before .before .before .before .before .before .if4 .taken) (c .before .before .before .before .read82 .ensures) double-content (double-of-double _ _ (c .before .before .before .double-to-double .ensures)) _ _ (c .before .before .put-node84 .ensures)
+returns-4 c = double-way to-double _ _ (c .before .before .before .before .before .before .before .before .before .before .before .before .before .pre) (c .before .before .before .before .before .before .if4 .taken) _ _ (c .before .before .before .before .read82 .ensures) (c .before .before .before .double-to-double .ensures) _ _ (c .before .before .put-node84 .ensures)
 
 sub-double-of-text : tie.Need-sub-double-of-text
 sub-double-of-text c = let h = value-there _ _ (c .before .before .before .before .before .before .before .before .pre) .1 in omega arith
@@ -90,16 +88,16 @@ part-double-of-text-end : tie.Need-part-double-of-text-end
 part-double-of-text-end c = search needs
 
 double-of-text-requires : tie.Need-double-of-text-requires
-double-of-text-requires c κs = subst (λ (x : List ℕ). Reads (readCounted x)) (sym (part-to-end (c .before .before .before .before .before .before .before .before .before .before .args .v .now) 1)) (text-node _ _ (c .before .before .before .before .before .before .before .before .before .before .pre) 7 string-content (c .before .before .if5 .taken) .0)
+double-of-text-requires c κs = subst (λ (x : List ℕ). Reads (readCounted x)) (sym (part-to-end (c .before .before .before .before .before .before .before .before .before .before .args .v .now) 1)) (text-reads-counted _ _ (c .before .before .before .before .before .before .before .before .before .before .pre) 7 string-content (c .before .before .if5 .taken))
 
 same-length-5 : tie.Need-same-length-5
 same-length-5 c = search needs
 
 returns-5 : tie.Need-returns-5
-returns-5 c = text-answered resolve-double _ _ (c .before .before .before .before .before .before .before .before .before .before .before .before .before .pre) (λ t. special Kind.Double doubleOfFloat (parse-special-float t)) 7 string-content (c .before .before .before .before .before .if5 .taken) double-of-text _ (part-to-end (c .before .before .before .before .before .before .before .before .before .before .before .before .before .args .v .now) 1) _ _ (c .before .before .double-of-text .ensures)
+returns-5 c = text-way to-double _ _ (c .before .before .before .before .before .before .before .before .before .before .before .before .before .pre) (c .before .before .before .before .before .if5 .taken) _ (part-to-end (c .before .before .before .before .before .before .before .before .before .before .before .before .before .args .v .now) 1) _ _ (c .before .before .double-of-text .ensures)
 
 returns-6 : tie.Need-returns-6
-returns-6 c = kind-refused resolve-double _ _ (c .before .before .before .before .before .before .before .before .pre) (getD-allBytes _ (λ i. omega (arith, c .before .before .before .before .before .before .before .shared-slice-known .given i))) 6 (double-refused _ (c .before .before .before .before .if1 .left) (c .before .before .before .if2 .left) (c .before .before .if3 .left) (c .before .if4 .left) (c .if5 .left)) _
+returns-6 c = other-way to-double _ _ (c .before .before .before .before .before .before .before .before .pre) (getD-allBytes _ (λ i. omega (arith, c .before .before .before .before .before .before .before .shared-slice-known .given i))) (c .before .before .before .before .if1 .left) (c .before .before .before .if2 .left) (c .before .before .if3 .left) (c .before .if4 .left) (c .if5 .left) _
 
 pub resolve-double-spec : {M : Type 1} → statement M
 resolve-double-spec =

@@ -7,12 +7,10 @@ use borrow.Rule.Slice.PartAt.{part-to-end}
 use Rattle.number.proofs.Laws.{getD-allBytes}
 use Rattle.text.specs.Read.{readCounted}
 use Rattle.text.specs.Measured.{Reads}
-use Rattle.scalar.specs.Conversion.{parse-special-float}
-use Rattle.frame.specs.Kind
 use Rattle.frame.proofs.ValueNodes.{value-there}
-use Rattle.types.specs.Types.{special, resolve-float}
-use Rattle.types.proofs.NodeLaws.{wide-node, text-node, wide-made, kind-refused, text-answered}
-use Rattle.types.proofs.ScalarLaws.{int-content, long-content, float-content, double-content, string-content, float-of-int, float-of-long, float-of-float, float-of-double, float-of-text, float-refused}
+use Rattle.types.proofs.Contents.{int-content, long-content, float-content, double-content, string-content}
+use Rattle.types.proofs.NodeLaws.{wide-node, text-reads-counted}
+use Rattle.casts.proofs.FloatLaws.{to-float, int-way, long-way, float-way, double-way, text-way, other-way}
 use borrow.Author.Needs.{needs}
 use Rattle.casts.proofs.resolve_float.Statement.{statement}
 use Rattle.casts.proofs.resolve_float.Tie as tie
@@ -33,7 +31,7 @@ same-length : tie.Need-same-length
 same-length c = search needs
 
 returns : tie.Need-returns
-returns c = wide-made resolve-float _ _ (c .before .before .before .before .before .before .before .before .before .before .pre) 2 4 _ 4 4 _ int-content (c .before .before .before .before .before .before .if1 .taken) (c .before .before .before .before .read4 .ensures) float-content (float-of-int _ _ (c .before .before .before .int-to-float .ensures)) _ _ (c .before .before .put-node4 .ensures)
+returns c = int-way to-float _ _ (c .before .before .before .before .before .before .before .before .before .before .pre) (c .before .before .before .before .before .before .if1 .taken) _ _ (c .before .before .before .before .read4 .ensures) (c .before .before .before .int-to-float .ensures) _ _ (c .before .before .put-node4 .ensures)
 
 read8-requires : tie.Need-read8-requires
 read8-requires c κs = wide-node _ _ (c .before .before .before .before .before .before .pre) 3 8 long-content (c .before .if2 .taken) .0
@@ -48,7 +46,7 @@ same-length-2 : tie.Need-same-length-2
 same-length-2 c = search needs
 
 returns-2 : tie.Need-returns-2
-returns-2 c = wide-made resolve-float _ _ (c .before .before .before .before .before .before .before .before .before .before .before .pre) 3 8 _ 4 4 _ long-content (c .before .before .before .before .before .before .if2 .taken) (c .before .before .before .before .read8 .ensures) float-content (float-of-long _ _ (c .before .before .before .long-to-float .ensures)) _ _ (c .before .before .put-node42 .ensures)
+returns-2 c = long-way to-float _ _ (c .before .before .before .before .before .before .before .before .before .before .before .pre) (c .before .before .before .before .before .before .if2 .taken) _ _ (c .before .before .before .before .read8 .ensures) (c .before .before .before .long-to-float .ensures) _ _ (c .before .before .put-node42 .ensures)
 
 read4-requires-2 : tie.Need-read4-requires-2
 read4-requires-2 c κs = wide-node _ _ (c .before .before .before .before .before .before .before .pre) 4 4 float-content (c .before .if3 .taken) .0
@@ -63,7 +61,7 @@ same-length-3 : tie.Need-same-length-3
 same-length-3 c = search needs
 
 returns-3 : tie.Need-returns-3
-returns-3 c = wide-made resolve-float _ _ (c .before .before .before .before .before .before .before .before .before .before .before .before .pre) 4 4 _ 4 4 _ float-content (c .before .before .before .before .before .before .if3 .taken) (c .before .before .before .before .read42 .ensures) float-content (float-of-float _ _ (c .before .before .before .float-to-float .ensures)) _ _ (c .before .before .put-node43 .ensures)
+returns-3 c = float-way to-float _ _ (c .before .before .before .before .before .before .before .before .before .before .before .before .pre) (c .before .before .before .before .before .before .if3 .taken) _ _ (c .before .before .before .before .read42 .ensures) (c .before .before .before .float-to-float .ensures) _ _ (c .before .before .put-node43 .ensures)
 
 read8-requires-2 : tie.Need-read8-requires-2
 read8-requires-2 c κs = wide-node _ _ (c .before .before .before .before .before .before .before .before .pre) 5 8 double-content (c .before .if4 .taken) .0
@@ -78,7 +76,7 @@ same-length-4 : tie.Need-same-length-4
 same-length-4 c = search needs
 
 returns-4 : tie.Need-returns-4
-returns-4 c = wide-made resolve-float _ _ (c .before .before .before .before .before .before .before .before .before .before .before .before .before .pre) 5 8 _ 4 4 _ double-content (c .before .before .before .before .before .before .if4 .taken) (c .before .before .before .before .read82 .ensures) float-content (float-of-double _ _ (c .before .before .before .double-to-float .ensures)) _ _ (c .before .before .put-node44 .ensures)
+returns-4 c = double-way to-float _ _ (c .before .before .before .before .before .before .before .before .before .before .before .before .before .pre) (c .before .before .before .before .before .before .if4 .taken) _ _ (c .before .before .before .before .read82 .ensures) (c .before .before .before .double-to-float .ensures) _ _ (c .before .before .put-node44 .ensures)
 
 sub-float-of-text : tie.Need-sub-float-of-text
 sub-float-of-text c = let h = value-there _ _ (c .before .before .before .before .before .before .before .before .pre) .1 in omega arith
@@ -90,16 +88,16 @@ part-float-of-text-end : tie.Need-part-float-of-text-end
 part-float-of-text-end c = search needs
 
 float-of-text-requires : tie.Need-float-of-text-requires
-float-of-text-requires c κs = subst (λ (x : List ℕ). Reads (readCounted x)) (sym (part-to-end (c .before .before .before .before .before .before .before .before .before .before .args .v .now) 1)) (text-node _ _ (c .before .before .before .before .before .before .before .before .before .before .pre) 7 string-content (c .before .before .if5 .taken) .0)
+float-of-text-requires c κs = subst (λ (x : List ℕ). Reads (readCounted x)) (sym (part-to-end (c .before .before .before .before .before .before .before .before .before .before .args .v .now) 1)) (text-reads-counted _ _ (c .before .before .before .before .before .before .before .before .before .before .pre) 7 string-content (c .before .before .if5 .taken))
 
 same-length-5 : tie.Need-same-length-5
 same-length-5 c = search needs
 
 returns-5 : tie.Need-returns-5
-returns-5 c = text-answered resolve-float _ _ (c .before .before .before .before .before .before .before .before .before .before .before .before .before .pre) (λ t. special Kind.Float (λ b. b) (parse-special-float t)) 7 string-content (c .before .before .before .before .before .if5 .taken) float-of-text _ (part-to-end (c .before .before .before .before .before .before .before .before .before .before .before .before .before .args .v .now) 1) _ _ (c .before .before .float-of-text .ensures)
+returns-5 c = text-way to-float _ _ (c .before .before .before .before .before .before .before .before .before .before .before .before .before .pre) (c .before .before .before .before .before .if5 .taken) _ (part-to-end (c .before .before .before .before .before .before .before .before .before .before .before .before .before .args .v .now) 1) _ _ (c .before .before .float-of-text .ensures)
 
 returns-6 : tie.Need-returns-6
-returns-6 c = kind-refused resolve-float _ _ (c .before .before .before .before .before .before .before .before .pre) (getD-allBytes _ (λ i. omega (arith, c .before .before .before .before .before .before .before .shared-slice-known .given i))) 6 (float-refused _ (c .before .before .before .before .if1 .left) (c .before .before .before .if2 .left) (c .before .before .if3 .left) (c .before .if4 .left) (c .if5 .left)) _
+returns-6 c = other-way to-float _ _ (c .before .before .before .before .before .before .before .before .pre) (getD-allBytes _ (λ i. omega (arith, c .before .before .before .before .before .before .before .shared-slice-known .given i))) (c .before .before .before .before .if1 .left) (c .before .before .before .if2 .left) (c .before .before .if3 .left) (c .before .if4 .left) (c .if5 .left) _
 
 pub resolve-float-spec : {M : Type 1} → statement M
 resolve-float-spec =

@@ -4,8 +4,9 @@ use borrow.Author.Needs.{needs}
 use Rattle.number.proofs.Laws.{getD-allBytes}
 use Rattle.frame.proofs.ValueNodes.{value-there}
 use Rattle.types.specs.Types.{resolve-null}
+use Rattle.types.proofs.Contents.{null-content}
 use Rattle.types.proofs.NodeLaws.{wide-front, wide-kept, kind-refused}
-use Rattle.types.proofs.ScalarLaws.{null-content, null-kept, null-refused}
+use Rattle.types.proofs.ScalarLaws.{null-kept, null-refused}
 use Rattle.casts.proofs.resolve_null.Statement.{statement}
 use Rattle.casts.proofs.resolve_null.Tie as tie
 

@@ -1,4 +1,4 @@
--- `types::octets::append_points` meets its contract.
+-- `octets::append_points` meets its contract.
 use mathlib.Core.Path.{_≡_, ap, _∙_}
 use Prim.Native.Nat.{_-_}
 use lib.ListN.{length, length-drop}

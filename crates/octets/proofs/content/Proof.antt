@@ -1,4 +1,4 @@
--- `types::octets::content` meets its contract.
+-- `octets::content` meets its contract.
 use native.Mathlib.Omega.{arith}
 use borrow.Author.Needs.{needs}
 use borrow.Rule.Slice.PartAt.{part-to-end}

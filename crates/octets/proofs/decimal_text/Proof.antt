@@ -1,9 +1,10 @@
--- `types::octets::decimal_text` meets its contract.
+-- `octets::decimal_text` meets its contract.
 use native.Mathlib.Omega.{arith}
 use mathlib.Core.Path.{refl, sym, ap, _∙_}
 use Rattle.buffer.proofs.BuiltLaws.{built-small}
 use Rattle.types.specs.Contract.{points}
-use Rattle.types.proofs.PartLaws.{content-Decimal, wrote-counted, built-counted}
+use Rattle.types.proofs.Contents.{decimal-content}
+use Rattle.types.proofs.PartLaws.{wrote-counted, built-counted}
 use Rattle.types.proofs.OctetLaws.{refused-with, wrote-is}
 use Rattle.utf8.specs.Utf8.{codePoints, latin1Count}
 use Rattle.utf8.proofs.Walk.{count-of, count-above}
@@ -43,7 +44,7 @@ same-length c = search needs
 
 returns : tie.Need-returns
 unfolding codePoints
-returns c = let e = points-are (c .before .before .before .before .before .before .before .before .before .before .before .before .before .before .before .args .t .now) _ (c .before .before .before .before .before .before .before .before .before .before .before .before .before .before .before .pre .0) refl in let k = count-of (points (c .before .before .before .before .before .before .before .before .before .before .before .before .before .before .before .args .t .now)) _ (sym (ap latin1Count e) ∙ sym (c .before .before .before .before .before .before .before .before .before .before .before .before .latin1-len .ensures) ∙ c .before .before .before .before .before .before .before .before .before .before .n .given .1) in let l = length-points (c .before .before .before .before .before .before .before .before .before .before .before .before .before .before .before .args .t .now) in wrote-is _ _ _ _ (decimal-accepted (c .before .before .before .before .before .before .before .before .before .before .before .before .before .before .before .args .t .now) (c .before .before .before .before .before .before .before .before .before .before .before .before .before .before .before .pre .0) (k .0)) (wrote-counted 14 _ _ _ content-Decimal (built-counted 14 _ (points (c .before .before .before .before .before .before .before .before .before .before .before .before .before .before .before .args .t .now)) _ _ (k .1) (omega (arith, c .before .before .before .before .before .before .before .before .before .before .before .before .before .before .before .pre .1)) (c .before .before .append-points .ensures _ (c .before .before .before .before .before .before .put .ensures))))
+returns c = let e = points-are (c .before .before .before .before .before .before .before .before .before .before .before .before .before .before .before .args .t .now) _ (c .before .before .before .before .before .before .before .before .before .before .before .before .before .before .before .pre .0) refl in let k = count-of (points (c .before .before .before .before .before .before .before .before .before .before .before .before .before .before .before .args .t .now)) _ (sym (ap latin1Count e) ∙ sym (c .before .before .before .before .before .before .before .before .before .before .before .before .latin1-len .ensures) ∙ c .before .before .before .before .before .before .before .before .before .before .n .given .1) in let l = length-points (c .before .before .before .before .before .before .before .before .before .before .before .before .before .before .before .args .t .now) in wrote-is _ _ _ _ (decimal-accepted (c .before .before .before .before .before .before .before .before .before .before .before .before .before .before .before .args .t .now) (c .before .before .before .before .before .before .before .before .before .before .before .before .before .before .before .pre .0) (k .0)) (wrote-counted 14 _ _ _ decimal-content (built-counted 14 _ (points (c .before .before .before .before .before .before .before .before .before .before .before .before .before .before .before .args .t .now)) _ _ (k .1) (omega (arith, c .before .before .before .before .before .before .before .before .before .before .before .before .before .before .before .pre .1)) (c .before .before .append-points .ensures _ (c .before .before .before .before .before .before .put .ensures))))
 
 returns-2 : tie.Need-returns-2
 unfolding codePoints

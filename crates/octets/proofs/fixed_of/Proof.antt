@@ -1,6 +1,7 @@
--- `types::octets::fixed_of` meets its contract.
+-- `octets::fixed_of` meets its contract.
 use borrow.Author.Tests.{eq-eqb, ne-eqb}
-use Rattle.types.proofs.PartLaws.{content-Fixed, wrote-counted}
+use Rattle.types.proofs.Contents.{fixed-content}
+use Rattle.types.proofs.PartLaws.{wrote-counted}
 use Rattle.types.proofs.OctetLaws.{wrote-then, wrote-else, refused-with}
 use borrow.Author.Needs.{needs}
 use Rattle.octets.proofs.fixed_of.Statement.{statement}
@@ -13,7 +14,7 @@ same-length : tie.Need-same-length
 same-length c = search needs
 
 returns : tie.Need-returns
-returns c = wrote-then _ _ _ _ _ (eq-eqb _ _ (c .before .before .before .before .if1 .taken)) (wrote-counted 13 _ _ _ content-Fixed (c .before .before .put-counted .ensures))
+returns c = wrote-then _ _ _ _ _ (eq-eqb _ _ (c .before .before .before .before .if1 .taken)) (wrote-counted 13 _ _ _ fixed-content (c .before .before .put-counted .ensures))
 
 returns-2 : tie.Need-returns-2
 returns-2 c = wrote-else _ _ _ _ _ (ne-eqb _ _ (c .if1 .left)) (refused-with 10 _)

@@ -1,4 +1,4 @@
--- `types::octets::fixed_too_short` meets its contract.
+-- `octets::fixed_too_short` meets its contract.
 use mathlib.Core.Path.{sym, ap, _∙_}
 use mathlib.Core.Bool.{Bool}
 use Rattle.base.specs.Base.{if_then_else_}

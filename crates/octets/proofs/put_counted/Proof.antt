@@ -1,4 +1,4 @@
--- `types::octets::put_counted` meets its contract.
+-- `octets::put_counted` meets its contract.
 use Rattle.buffer.proofs.BuiltLaws.{built-small}
 use Rattle.types.proofs.PartLaws.{built-header}
 use borrow.Author.Needs.{needs}

@@ -1,4 +1,4 @@
--- `types::octets::put_plain` meets its contract.
+-- `octets::put_plain` meets its contract.
 use Rattle.buffer.proofs.BuiltLaws.{built-small}
 use borrow.Author.Needs.{needs}
 use Rattle.octets.proofs.put_plain.Statement.{statement}

@@ -1,4 +1,4 @@
--- `types::octets::put_points` meets its contract.
+-- `octets::put_points` meets its contract.
 use native.Mathlib.Omega.{arith}
 use mathlib.Core.Path.{refl, ap, _∙_}
 use lib.ListN.{length}

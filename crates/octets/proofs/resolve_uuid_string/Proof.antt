@@ -1,11 +1,12 @@
--- `types::octets::resolve_uuid_string` meets its contract.
+-- `octets::resolve_uuid_string` meets its contract.
 use native.Mathlib.Omega.{arith}
 use Rattle.number.proofs.Laws.{getD-allBytes}
 use Rattle.frame.specs.Tree.{UuidForm, kindOf, octets}
 use Rattle.frame.proofs.ValueNodes.{value-there}
 use Rattle.types.specs.Types.{resolve-uuid}
-use Rattle.types.proofs.NodeLaws.{kind-refused}
-use Rattle.types.proofs.PartLaws.{content-String, content-Uuid, text-reads-counted, plain-node, wrote-plain, on-text, on-plain}
+use Rattle.types.proofs.Contents.{string-content, uuid-content}
+use Rattle.types.proofs.NodeLaws.{text-reads-counted, kind-refused}
+use Rattle.types.proofs.PartLaws.{plain-node, wrote-plain, on-text, on-plain}
 use Rattle.types.proofs.OctetLaws.{uuid-string-other}
 use borrow.Author.Needs.{needs}
 use Rattle.octets.proofs.resolve_uuid_string.Statement.{statement}
@@ -21,7 +22,7 @@ part-put-plain-start : tie.Need-part-put-plain-start
 part-put-plain-start c = search needs
 
 part-put-plain-end : tie.Need-part-put-plain-end
-part-put-plain-end c = plain-node _ _ (c .before .before .before .before .before .pre) 15 16 content-Uuid (c .before .if1 .taken) .0
+part-put-plain-end c = plain-node _ _ (c .before .before .before .before .before .pre) 15 16 uuid-content (c .before .if1 .taken) .0
 
 put-plain-requires : tie.Need-put-plain-requires
 put-plain-requires c κs = search needs
@@ -31,13 +32,13 @@ same-length c = search needs
 
 returns : tie.Need-returns
 unfolding resolve-uuid kindOf octets
-returns c = on-plain (resolve-uuid UuidForm.string) _ _ (c .before .before .before .before .before .before .before .before .before .pre) 15 16 _ _ content-Uuid (c .before .before .before .before .before .if1 .taken) (wrote-plain 15 16 _ _ _ content-Uuid (c .before .before .put-plain .ensures))
+returns c = on-plain (resolve-uuid UuidForm.string) _ _ (c .before .before .before .before .before .before .before .before .before .pre) 15 16 _ _ uuid-content (c .before .before .before .before .before .if1 .taken) (wrote-plain 15 16 _ _ _ uuid-content (c .before .before .put-plain .ensures))
 
 shared-slice-read-if2 : tie.Need-shared-slice-read-if2
 shared-slice-read-if2 c = value-there _ _ (c .before .before .before .before .before .pre) .1
 
 content-requires : tie.Need-content-requires
-content-requires c κs = text-reads-counted _ _ (c .before .before .before .before .before .before .pre) 7 content-String (c .if2 .taken)
+content-requires c κs = text-reads-counted _ _ (c .before .before .before .before .before .before .pre) 7 string-content (c .if2 .taken)
 
 uuid-text-requires : tie.Need-uuid-text-requires
 uuid-text-requires c κs = search needs

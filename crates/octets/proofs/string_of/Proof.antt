@@ -1,4 +1,4 @@
--- `types::octets::string_of` meets its contract.
+-- `octets::string_of` meets its contract.
 use mathlib.Core.Path.{sym, _∙_}
 use Rattle.types.proofs.PartLaws.{wrote-text}
 use Rattle.types.proofs.OctetLaws.{wrote-then, wrote-else, refused-with}

@@ -1,7 +1,8 @@
--- `types::octets::uuid_of` meets its contract.
+-- `octets::uuid_of` meets its contract.
 use borrow.Author.Tests.{eq-eqb, ne-eqb}
 use Rattle.types.specs.Types.{uuidOfBytes}
-use Rattle.types.proofs.PartLaws.{content-Uuid, wrote-plain}
+use Rattle.types.proofs.Contents.{uuid-content}
+use Rattle.types.proofs.PartLaws.{wrote-plain}
 use Rattle.types.proofs.OctetLaws.{wrote-then, wrote-else, refused-with}
 use borrow.Author.Needs.{needs}
 use Rattle.octets.proofs.uuid_of.Statement.{statement}
@@ -15,7 +16,7 @@ same-length c = search needs
 
 returns : tie.Need-returns
 unfolding uuidOfBytes
-returns c = wrote-then _ _ _ _ _ (eq-eqb _ _ (c .before .before .before .before .if1 .taken)) (wrote-plain 15 16 _ _ _ content-Uuid (c .before .before .put-plain .ensures))
+returns c = wrote-then _ _ _ _ _ (eq-eqb _ _ (c .before .before .before .before .if1 .taken)) (wrote-plain 15 16 _ _ _ uuid-content (c .before .before .put-plain .ensures))
 
 returns-2 : tie.Need-returns-2
 unfolding uuidOfBytes

@@ -1,6 +1,7 @@
--- `types::octets::uuid_text` meets its contract.
+-- `octets::uuid_text` meets its contract.
 use Rattle.types.specs.Types.{parsedUuid}
-use Rattle.types.proofs.PartLaws.{content-Uuid, wrote-plain}
+use Rattle.types.proofs.Contents.{uuid-content}
+use Rattle.types.proofs.PartLaws.{wrote-plain}
 use Rattle.types.proofs.OctetLaws.{refused-with}
 use borrow.Author.Needs.{needs}
 use Rattle.octets.proofs.ContentLaws.{parsed-ok, parsed-not}
@@ -21,7 +22,7 @@ same-length c = search needs
 
 returns : tie.Need-returns
 unfolding parsedUuid
-returns c = rw (parsed-ok _ _ (c .before .before .before .before .before .before .before .parse-str .ensures) (c .before .before .before .before .before .before .if1 .taken)) (wrote-plain 15 16 _ _ _ content-Uuid (c .before .before .put-plain .ensures))
+returns c = rw (parsed-ok _ _ (c .before .before .before .before .before .before .before .parse-str .ensures) (c .before .before .before .before .before .before .if1 .taken)) (wrote-plain 15 16 _ _ _ uuid-content (c .before .before .put-plain .ensures))
 
 returns-2 : tie.Need-returns-2
 unfolding parsedUuid

@@ -1,4 +1,4 @@
--- `types::octets::enum_default` meets its contract.
+-- `symbols::enum_default` meets its contract.
 use native.Mathlib.Omega.{arith}
 use mathlib.Core.Path.{sym, _∙_}
 use Rattle.symbols.proofs.EnumLaws.{symbols-list, flag-there, no-default, default-counted, default-found, default-missing}

@@ -1,4 +1,4 @@
--- `types::octets::enum_of` meets its contract.
+-- `symbols::enum_of` meets its contract.
 use mathlib.Core.Path.{sym, _∙_}
 use Rattle.symbols.proofs.EnumLaws.{symbols-list, symbol-found, symbol-missing}
 use borrow.Author.Needs.{needs}

@@ -1,4 +1,4 @@
--- `types::octets::put_enum` meets its contract.
+-- `symbols::put_enum` meets its contract.
 use native.Mathlib.Omega.{arith}
 use Rattle.buffer.proofs.BuiltLaws.{built-small}
 use borrow.Author.Needs.{needs}

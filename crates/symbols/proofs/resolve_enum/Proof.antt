@@ -1,9 +1,10 @@
--- `types::octets::resolve_enum` meets its contract.
+-- `symbols::resolve_enum` meets its contract.
 use native.Mathlib.Omega.{arith}
 use Rattle.number.proofs.Laws.{getD-allBytes}
 use Rattle.frame.proofs.ValueNodes.{value-there}
 use Rattle.frame.proofs.SchemaNodes.{schema-there}
-use Rattle.types.proofs.PartLaws.{content-String, text-reads-counted, text-node}
+use Rattle.types.proofs.Contents.{string-content}
+use Rattle.types.proofs.NodeLaws.{text-reads-counted, text-node}
 use Rattle.symbols.proofs.EnumLaws.{schema-symbols, enum-way, enum-other, string-symbol, enum-symbol, symbol-there, symbol-counted, symbol-node}
 use borrow.Author.Needs.{needs}
 use borrow.Rule.Slice.PartAt.{part-to-end}
@@ -56,7 +57,7 @@ part-enum-of-end-2 : tie.Need-part-enum-of-end-2
 part-enum-of-end-2 c = search needs
 
 content-requires-2 : tie.Need-content-requires-2
-content-requires-2 c κs = text-reads-counted _ _ (c .before .before .before .before .before .before .before .before .pre .2) 7 content-String (c .before .if2 .taken)
+content-requires-2 c κs = text-reads-counted _ _ (c .before .before .before .before .before .before .before .before .pre .2) 7 string-content (c .before .if2 .taken)
 
 enum-of-requires-2 : tie.Need-enum-of-requires-2
 enum-of-requires-2 c κs = (rw part-to-end (schema-symbols (c .before .before .before .before .before .before .before .before .before .before .args .ds) (c .before .before .before .before .before .before .before .before .before .before .args .s .now) (c .before .before .before .before .before .before .before .before .before .before .pre .0) (c .before .before .before .before .before .before .before .before .before .before .pre .1)), c .before .content2 .ensures .short)
@@ -65,7 +66,7 @@ same-length-2 : tie.Need-same-length-2
 same-length-2 c = search needs
 
 returns-2 : tie.Need-returns-2
-returns-2 c = enum-way (c .before .before .before .before .before .before .before .before .before .before .before .before .before .args .ds) (c .before .before .before .before .before .before .before .before .before .before .before .before .before .args .s .now) (c .before .before .before .before .before .before .before .before .before .before .before .before .before .pre .0) (c .before .before .before .before .before .before .before .before .before .before .before .before .before .pre .1) (c .before .before .before .before .before .before .before .before .before .before .before .before .before .args .depth) (c .before .before .before .before .before .before .before .before .before .before .before .before .before .args .v .now) _ _ (text-node _ _ (c .before .before .before .before .before .before .before .before .before .before .before .before .before .pre .2) 7 _ content-String (c .before .before .before .before .before .before .if2 .taken) (c .before .before .before .before .content2 .ensures) .0) _ _ _ (string-symbol _) (rw part-to-end at (c .before .before .enum-of2 .ensures))
+returns-2 c = enum-way (c .before .before .before .before .before .before .before .before .before .before .before .before .before .args .ds) (c .before .before .before .before .before .before .before .before .before .before .before .before .before .args .s .now) (c .before .before .before .before .before .before .before .before .before .before .before .before .before .pre .0) (c .before .before .before .before .before .before .before .before .before .before .before .before .before .pre .1) (c .before .before .before .before .before .before .before .before .before .before .before .before .before .args .depth) (c .before .before .before .before .before .before .before .before .before .before .before .before .before .args .v .now) _ _ (text-node _ _ (c .before .before .before .before .before .before .before .before .before .before .before .before .before .pre .2) 7 string-content (c .before .before .before .before .before .before .if2 .taken) _ _ (c .before .before .before .before .content2 .ensures .counted) .0) _ _ _ (string-symbol _) (rw part-to-end at (c .before .before .enum-of2 .ensures))
 
 returns-3 : tie.Need-returns-3
 returns-3 c = enum-other (c .before .before .before .before .before .before .before .args .ds) (c .before .before .before .before .before .before .before .args .s .now) (c .before .before .before .before .before .before .before .pre .0) (c .before .before .before .before .before .before .before .pre .1) (c .before .before .before .before .before .before .before .args .depth) (c .before .before .before .before .before .before .before .args .v .now) _ (c .before .before .before .before .before .before .before .pre .2) (getD-allBytes (c .before .before .before .before .before .before .before .args .v .now) (λ i. omega (arith, c .before .before .before .before .before .shared-slice-known2 .given i))) (c .before .before .if1 .left) (c .if2 .left)
