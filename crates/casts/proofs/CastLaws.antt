@@ -2,18 +2,19 @@
 use Prim.Native.Nat.{ℕ, suc, _+_, _%_, _^_, _≤_, _<_}
 use mathlib.Core.Path.{_≡_, refl, sym, ap, _∙_, subst}
 use mathlib.Core.List.{List, _∷_, _++_, append-nil}
-use mathlib.Core.Option.{some}
+use mathlib.Core.Option.{none, some}
 use mathlib.Core.Bool.{Bool, true, false, _||_, true≢false}
 use native.Mathlib.Nat.{mod-eq-of-lt}
 use native.Mathlib.Omega.{arith}
-use borrow.Author.Tests.{eq-eqb, ne-eqb, lt-ltb, le-ltb, le-leb, eqb-true, eqb-false, ltb-true, ltb-false}
-use lib.Dec.{T, eqb, ltb}
+use borrow.Author.Tests.{eq-eqb, ne-eqb, lt-ltb, le-ltb, le-leb, eqb-true, eqb-false, leb-true, leb-false, ltb-true, ltb-false}
+use lib.Dec.{T, leb, eqb, ltb}
 use lib.IntN.{ℤ}
 use lib.ListN.{length, getD, drop}
 use lib.Seq.{drop-length}
 use Rattle.base.specs.Base.{if_then_else_, ok, stop}
 use Rattle.number.specs.Number.{allBytes, numberAt, bytesOf, written}
 use Rattle.number.proofs.Laws.{numberAt-<, length-bytesOf, bytesOf-mod}
+use Rattle.text.specs.Read.{Read}
 use Rattle.text.specs.Measured.{Reads}
 use Rattle.rounding.specs.Rounding.{ofTwos, toTwos}
 use Rattle.scalar.specs.Conversion.{longOfInt, inInt, intOfLong}
@@ -338,3 +339,20 @@ module _ (j : ℕ) (a : 0x10 ≤ j) (b : j ≤ 0x18) where
           let s = ltb-false j 0x12 e in
           let p = sym (plain-long-time j s (Value.Scalar k n)) in
           from-each k n t h (λ q. wide-from-int k n t h s q ∙ p) (λ q. wide-from-long k n t h s q ∙ p) (λ f g. wide-from-other k n t h s f g ∙ p)
+
+-- ---- a schema that is its kind alone
+
+-- what f answers, at a kind that goes to f
+pub plain-answered : (f : Value → Outcome) (j : ℕ) → ((w : Value) → resolvePlain j w ≡ f w) → (k : ℕ) → k ≡ j
+    → (x : Read Value) (o : List ℕ) (a : Answer) → Wrote (onRead (λ w. encoded (f w)) x) o a → Wrote (onRead (λ w. encoded (resolvePlain k w)) x) o a
+unfolding onRead
+plain-answered f j g k e none o a h = h
+plain-answered f j g k e (some w) o a h = subst (λ z. Wrote (encoded z) o a) (sym (ap (λ (i : ℕ). resolvePlain i (w .0)) e ∙ g (w .0))) h
+
+-- of the kinds that are neither Bytes nor String, those below the dates
+pub below-times : (k : ℕ) → (5 < k → 0x10 ≤ k) → k < 0x10 → k ≤ 5
+below-times k f h = go (leb k 5) refl
+  where
+    go : (b : Bool) → leb k 5 ≡ b → k ≤ 5
+    go true e = leb-true k 5 e
+    go false e = absurd (omega (arith, f (leb-false k 5 e)))
