@@ -2,9 +2,9 @@
 use crate::told::Told;
 use crate::told::known;
 use crate::told::unknown;
-use lines::output::put;
-use lines::output::put_decimal;
-use lines::output::put_hex;
+use streams::output::put;
+use streams::output::put_decimal;
+use streams::output::put_hex;
 
 fn put4(ok: bool, b: u32) -> bool {
     put_hex(ok, b as u64, 8)

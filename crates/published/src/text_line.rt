@@ -2,8 +2,8 @@
 use crate::told::Told;
 use crate::told::known;
 use crate::told::unknown;
-use lines::output::put;
-use lines::output::put_hex;
+use streams::output::put;
+use streams::output::put_hex;
 ghost use mathlib.Core.Path.{_≡_};
 ghost use mathlib.Core.Bool.{true};
 ghost use Rattle.utf8.specs.Utf8.{isUtf8};
