@@ -12,9 +12,9 @@ use Rattle.number.specs.Number.{allBytes, numberAt, bytesOf}
 use Rattle.text.specs.Read.{Read, readCounted}
 use Rattle.text.specs.Measured.{Reads}
 use Rattle.scalar.specs.Conversion.{floatOfInt, floatOfLong, floatOfDouble, doubleOfInt, doubleOfLong, doubleOfFloat, parse-special-float}
-use Rattle.scalar.specs.Scalars.{specialOf}
-use Rattle.scalar.specs.declared.SpecialFloat.{SpecialFloat}
-use Rattle.scalar.specs.declared.SpecialFloat.the-variants.{Bits, NotOne}
+use Rattle.bits.specs.Special.{specialOf}
+use Rattle.bits.specs.declared.SpecialFloat.{SpecialFloat}
+use Rattle.bits.specs.declared.SpecialFloat.the-variants.{Bits, NotOne}
 use Rattle.frame.specs.Kind
 use Rattle.frame.specs.Tree.{Value, kindOf, number, octets}
 use Rattle.frame.specs.ValueFrame.{wide, kindContent, readValue}

@@ -1,9 +1,9 @@
 // The `resolve_` functions of src/types.rs for Null, Boolean, the numbers, and the dates and times. A number or a time is read as a scalar,
 // converted, and written as the scalar that comes out.
+use bits::SpecialFloat;
 use buffer::Answer;
 use scalar::Cast;
 use scalar::Scalar;
-use scalar::SpecialFloat;
 ghost use mathlib.Core.Path.{_≡_};
 ghost use mathlib.Core.List.{List, _∷_};
 ghost use mathlib.Core.Option.{some};
@@ -128,7 +128,7 @@ fn float_of_text(s: &[u8], out: &mut [u8]) -> Answer
     requires { ⌜ Reads (readCounted (now s)) ⌝ }
     ensures { λ r. ⌜ Wrote (onRead (λ t. encoded (special Kind.Float (λ b. b) (parse-special-float t))) (readCounted (now (s .entry)))) (now (out .exit)) r ⌝ }
 {
-    match scalar::parse_special_float(text::content(s)) {
+    match bits::parse_special_float(text::content(s)) {
         SpecialFloat::Bits(b) => return Answer::Accepted(put_node4(out, 4, b)),
         SpecialFloat::NotOne => return Answer::Refused(6),
     }
@@ -140,16 +140,16 @@ fn resolve_float(v: &[u8], out: &mut [u8], depth: usize) -> Answer
 {
     let k = v[0];
     if k == 2 {
-        return Answer::Accepted(put_node4(out, 4, scalar::int_to_float(number::read4(v, 1))));
+        return Answer::Accepted(put_node4(out, 4, bits::int_to_float(number::read4(v, 1))));
     }
     if k == 3 {
-        return Answer::Accepted(put_node4(out, 4, scalar::long_to_float(number::read8(v, 1))));
+        return Answer::Accepted(put_node4(out, 4, bits::long_to_float(number::read8(v, 1))));
     }
     if k == 4 {
-        return Answer::Accepted(put_node4(out, 4, scalar::float_to_float(number::read4(v, 1))));
+        return Answer::Accepted(put_node4(out, 4, bits::float_to_float(number::read4(v, 1))));
     }
     if k == 5 {
-        return Answer::Accepted(put_node4(out, 4, scalar::double_to_float(number::read8(v, 1))));
+        return Answer::Accepted(put_node4(out, 4, bits::double_to_float(number::read8(v, 1))));
     }
     if k == 7 {
         return float_of_text(&v[1..], out);
@@ -162,11 +162,11 @@ fn double_of_text(s: &[u8], out: &mut [u8]) -> Answer
     requires { ⌜ Reads (readCounted (now s)) ⌝ }
     ensures { λ r. ⌜ Wrote (onRead (λ t. encoded (special Kind.Double doubleOfFloat (parse-special-float t))) (readCounted (now (s .entry)))) (now (out .exit)) r ⌝ }
 {
-    match scalar::parse_special_float(text::content(s)) {
+    match bits::parse_special_float(text::content(s)) {
         SpecialFloat::Bits(b) => return Answer::Accepted(put_node8(
             out,
             5,
-            scalar::float_to_double(b),
+            bits::float_to_double(b),
         )),
         SpecialFloat::NotOne => return Answer::Refused(6),
     }
@@ -178,16 +178,16 @@ fn resolve_double(v: &[u8], out: &mut [u8], depth: usize) -> Answer
 {
     let k = v[0];
     if k == 2 {
-        return Answer::Accepted(put_node8(out, 5, scalar::int_to_double(number::read4(v, 1))));
+        return Answer::Accepted(put_node8(out, 5, bits::int_to_double(number::read4(v, 1))));
     }
     if k == 3 {
-        return Answer::Accepted(put_node8(out, 5, scalar::long_to_double(number::read8(v, 1))));
+        return Answer::Accepted(put_node8(out, 5, bits::long_to_double(number::read8(v, 1))));
     }
     if k == 4 {
-        return Answer::Accepted(put_node8(out, 5, scalar::float_to_double(number::read4(v, 1))));
+        return Answer::Accepted(put_node8(out, 5, bits::float_to_double(number::read4(v, 1))));
     }
     if k == 5 {
-        return Answer::Accepted(put_node8(out, 5, scalar::double_to_double(number::read8(v, 1))));
+        return Answer::Accepted(put_node8(out, 5, bits::double_to_double(number::read8(v, 1))));
     }
     if k == 7 {
         return double_of_text(&v[1..], out);

@@ -58,9 +58,9 @@ fn uuid_of(ok: bool, s: &[u8]) -> bool {
 }
 
 fn float_text_of(ok: bool, s: &[u8]) -> bool {
-    match scalar::parse_special_float(s) {
-        scalar::SpecialFloat::Bits(b) => put_hex(ok, b as u64, 8),
-        scalar::SpecialFloat::NotOne => put(ok, b"none"),
+    match bits::parse_special_float(s) {
+        bits::SpecialFloat::Bits(b) => put_hex(ok, b as u64, 8),
+        bits::SpecialFloat::NotOne => put(ok, b"none"),
     }
 }
 
