@@ -2,17 +2,17 @@
 use mathlib.Core.Path.{_≡_, refl, sym, ap, _∙_, subst}
 use Prim.Native.Nat.{ℕ, _%_, _^_, _<_}
 use native.Mathlib.Nat.{mod-eq-of-lt}
-use mathlib.Core.Bool.{Bool, true, false, cond}
+use mathlib.Core.Bool.{true}
 use lib.IntN.{ℤ}
 use lib.Dec.{T, lit≤, ltb→lt}
-use lib.Ieee.{Format, binary32, binary64, prec, emax, top, toBits, ofBits, nanBits}
+use lib.Ieee.{Format, binary32, binary64, prec, emax, top, toBits, nanBits}
 use lib.Ieee.Bits.{nanBits-above}
-use Rattle.rounding.specs.Rounding.{infinity, signBit, ofInteger, convert, ofTwos}
+use Rattle.rounding.specs.Rounding.{infinity, ofInteger, convert, ofTwos}
 use Rattle.scalar.specs.Scalars.{floatOf, doubleOf, ofContent, contentOf, castContent, floatCast, doubleCast}
 use Rattle.scalar.specs.declared.Scalar.the-variants.{Int, Float, FloatNan, Double, DoubleNan}
 use Rattle.rounding.proofs.Width.{single, double, integer-lt, convert-lt}
 use Rattle.scalar.proofs.Ieee754.{nan-quiet}
-use Rattle.scalar.proofs.Contents.{kept, float-content, double-content, of-kind-2, of-kind-4}
+use Rattle.scalar.proofs.Contents.{by-nan, float-content, double-content, of-kind-2, of-kind-4}
 
 -- ---- a number that was read
 pub int-content : (b : ℕ) → b < 2 ^ 32 → ofContent 0x02 b ≡ Int (ofTwos 32 b)
@@ -27,18 +27,10 @@ double-read b = refl
 
 -- ---- all bits are kept, a NaN's too
 pub float-stays : (b : ℕ) → b < 2 ^ 32 → castContent (floatCast (floatOf b)) ≡ b
-float-stays b B = go (nanBits binary32 b) (kept binary32 b B)
-  where
-    go : (t : Bool) → (t ≡ false → toBits binary32 (ofBits binary32 b) ≡ b) → castContent (floatCast (cond t (FloatNan b) (Float (ofBits binary32 b)))) ≡ b
-    go true h = refl
-    go false h = h refl
+float-stays b B = by-nan binary32 b B (FloatNan b) Float (λ s. castContent (floatCast s)) (λ n. n) (λ k. refl) (λ x. refl)
 
 pub double-stays : (b : ℕ) → b < 2 ^ 64 → castContent (doubleCast (doubleOf b)) ≡ b
-double-stays b B = go (nanBits binary64 b) (kept binary64 b B)
-  where
-    go : (t : Bool) → (t ≡ false → toBits binary64 (ofBits binary64 b) ≡ b) → castContent (doubleCast (cond t (DoubleNan b) (Double (ofBits binary64 b)))) ≡ b
-    go true h = refl
-    go false h = h refl
+double-stays b B = by-nan binary64 b B (DoubleNan b) Double (λ s. castContent (doubleCast s)) (λ n. n) (λ k. refl) (λ x. refl)
 
 -- ---- the conversions
 pub integer-float : (z : ℤ) → contentOf (floatOf (ofInteger 24 127 z)) ≡ ofInteger 24 127 z
@@ -51,17 +43,13 @@ above : (f : Format) (b : ℕ) → nanBits f b ≡ true → infinity (prec f) (e
 above f b h = ltb→lt (infinity (prec f) (emax f)) (b % top f) (subst T (sym (sym (nanBits-above f b) ∙ h)) tt)
 
 pub double-float : (b : ℕ) → b < 2 ^ 64 → castContent (floatCast (doubleOf b)) ≡ convert 53 1023 24 127 b
-double-float b B = go (nanBits binary64 b) (kept binary64 b B) (above binary64 b)
-  where
-    go : (t : Bool) → (t ≡ false → toBits binary64 (ofBits binary64 b) ≡ b) → (t ≡ true → infinity 53 1023 < b % signBit 53 1023)
-        → castContent (floatCast (cond t (DoubleNan b) (Double (ofBits binary64 b)))) ≡ convert 53 1023 24 127 b
-    go true h k = sym (nan-quiet 53 1023 24 127 b (k refl))
-    go false h k = ap (λ (x : ℕ). contentOf (floatOf (convert 53 1023 24 127 x))) (h refl) ∙ float-content (convert 53 1023 24 127 b) (convert-lt 53 1023 24 127 b single (lit≤ tt))
+double-float b B =
+    by-nan binary64 b B (DoubleNan b) Double (λ s. castContent (floatCast s)) (convert 53 1023 24 127)
+    (λ k. sym (nan-quiet 53 1023 24 127 b (above binary64 b k)))
+    (λ x. let c = toBits binary64 x in float-content (convert 53 1023 24 127 c) (convert-lt 53 1023 24 127 c single (lit≤ tt)))
 
 pub float-double : (b : ℕ) → b < 2 ^ 32 → castContent (doubleCast (floatOf b)) ≡ convert 24 127 53 1023 b
-float-double b B = go (nanBits binary32 b) (kept binary32 b B) (above binary32 b)
-  where
-    go : (t : Bool) → (t ≡ false → toBits binary32 (ofBits binary32 b) ≡ b) → (t ≡ true → infinity 24 127 < b % signBit 24 127)
-        → castContent (doubleCast (cond t (FloatNan b) (Float (ofBits binary32 b)))) ≡ convert 24 127 53 1023 b
-    go true h k = sym (nan-quiet 24 127 53 1023 b (k refl))
-    go false h k = ap (λ (x : ℕ). contentOf (doubleOf (convert 24 127 53 1023 x))) (h refl) ∙ double-content (convert 24 127 53 1023 b) (convert-lt 24 127 53 1023 b double (lit≤ tt))
+float-double b B =
+    by-nan binary32 b B (FloatNan b) Float (λ s. castContent (doubleCast s)) (convert 24 127 53 1023)
+    (λ k. sym (nan-quiet 24 127 53 1023 b (above binary32 b k)))
+    (λ x. let c = toBits binary32 x in double-content (convert 24 127 53 1023 c) (convert-lt 24 127 53 1023 c double (lit≤ tt)))
