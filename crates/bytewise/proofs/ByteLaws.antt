@@ -29,8 +29,9 @@ use Rattle.buffer.specs.declared.Answer.{Answer}
 use Rattle.buffer.specs.declared.Answer.the-variants as A
 use Rattle.types.specs.Types.{resolve-int, inByte, intByte, try-u8, byteItems, resolve-bytes}
 use Rattle.types.specs.Contract.{encoded, onRead, valueOf, castOutcome}
+use Rattle.types.proofs.Contents.{bytes-content, array-content}
 use Rattle.types.proofs.NodeLaws.{wrote-ok, wrote-stop}
-use Rattle.types.proofs.PartLaws.{content-Bytes, content-Array, encode-counted, built-counted}
+use Rattle.types.proofs.PartLaws.{encode-counted, built-counted}
 use Rattle.value.proofs.NodeLaws.{arrayOf}
 use Rattle.bytewise.specs.Items.{byteOf, listBytes, itemsAsBytes}
 use Rattle.bytewise.specs.declared.Byte.{Byte}
@@ -131,7 +132,7 @@ module _ (d : ℕ) (s : List ℕ) (p : Reads (readValue d s)) where
   -- the items of an Array
   array-node : getD s 0 0 ≡ Kind.Array → readValue d s ≡ mapRead arrayOf (readList (readValue (d - 1)) (drop 1 s))
   unfolding readContent
-  array-node h = value-content d s p Kind.Array array content-Array h
+  array-node h = value-content d s p Kind.Array array array-content h
 
   pub array-reads : getD s 0 0 ≡ Kind.Array → (x : List ℕ) → x ≡ drop 1 s → Reads (readList (readValue (d - 1)) x)
   array-reads h x l = rw l (reads-first (readList (readValue (d - 1)) (drop 1 s)) _ (reads-eq _ _ (array-node h) p))
@@ -277,7 +278,7 @@ module _ (p : List ℕ → Read Value) (s : List ℕ) (left at : ℕ) (o : List 
   items-accepted h =
       let c : numberAt s 0 2 ≡ length (g .done) = omega (arith, g .counts) in
       wrote-ok _ _ o n
-      (items-outcome (readList p s) ∙ ap (λ (u : Result (List ℕ)). encoded (after u (λ s. ok (Value.Octets Kind.Bytes s)))) (filling-end p s left at o n g h) ∙ ap ok (encode-counted Kind.Bytes (g .done) content-Bytes))
+      (items-outcome (readList p s) ∙ ap (λ (u : Result (List ℕ)). encoded (after u (λ s. ok (Value.Octets Kind.Bytes s)))) (filling-end p s left at o n g h) ∙ ap ok (encode-counted Kind.Bytes (g .done) bytes-content))
       (built-counted Kind.Bytes _ (g .done) o n c (omega (arith, g .small)) (g .built))
 
   pub items-refused : 0 < left → (x : List ℕ) → x ≡ drop at s → (e : ℕ) → Refused e ≡ byteOf (onRead try-u8 (p x)) → (o' : List ℕ)

@@ -2,8 +2,6 @@
 // each item.
 use buffer::Answer;
 use scalar::Cast;
-use types::octets;
-use types::scalars;
 ghost use mathlib.Core.Path.{_≡_};
 ghost use Rattle.text.specs.Measured.{Reads};
 ghost use Rattle.frame.specs.Readers.{readList};
@@ -34,7 +32,7 @@ fn int_byte(v: &[u8], depth: usize) -> Byte
     requires { ⌜ Reads (readValue depth (now v)) ⌝ }
     ensures { λ r. ⌜ r ≡ byteOf (onRead intByte (readValue depth (now (v .entry)))) ⌝ }
 {
-    match scalars::as_int(v, depth) {
+    match casts::as_int(v, depth) {
         Cast::To(s) => in_byte(s.content()),
         Cast::Unsuited => Byte::Refused(6),
         Cast::OutOfRange => Byte::Refused(7),

@@ -2,8 +2,8 @@
 // schema or a value, the frame in hexadecimal, and a mark: `+` for a sound frame, else the number that stops it; or it begins with
 // `#` and says something. Each line whose frame has another mark is named, and at the end both are counted.
 use frame::Verdict;
-use lines::output::put;
-use lines::output::put_decimal;
+use streams::output::put;
+use streams::output::put_decimal;
 ghost use mathlib.Core.Path.{_≡_};
 ghost use Rattle.judge.specs.Mark.{schemaMark, valueMark, markOf};
 
@@ -109,7 +109,7 @@ fn all(block: &mut [u8], line: &mut [u8], room: &mut [u8]) -> Tally {
     };
     let mut turns = u64::MAX;
     while turns > 0 {
-        r = lines::input::next(r, block, line);
+        r = streams::input::next(r, block, line);
         if !r.whole || !t.ok {
             return t;
         }
@@ -129,7 +129,7 @@ fn report(t: Tally) {
 }
 
 fn main() {
-    if lines::output::usage(
+    if streams::output::usage(
         os::arg_count(),
         b"usage: judge < LIST\nReads a list of frames and their marks from standard input. It takes no arguments.\n",
     ) {

@@ -26,7 +26,7 @@ use Rattle.buffer.specs.Built.{Wrote}
 use Rattle.buffer.specs.declared.Answer.{Answer}
 use Rattle.types.specs.Types.{Outcome, resolvePlain, resolve-bytes, resolve-string, resolve-fixed, resolve-decimal, resolve-uuid, resolve-duration}
 use Rattle.types.specs.Contract.{encoded, onRead, onBoth}
-use Rattle.types.specs.Search.{resolveEnumAt}
+use Rattle.symbols.specs.Search.{resolveEnumAt}
 use Rattle.avro.specs.Resolve.{resolve}
 use Rattle.schema_parts.proofs.Leaves.{fixed-got, fixed-none, decimal-none, decimal-got, decimal-later, uuid-empty, uuid-bytes, uuid-string, uuid-short, uuid-fixed, uuid-other, duration-got, duration-none, plain-low, plain-high, kind-past}
 use Rattle.leaf.specs.Leaf.{Childless, resolvePeeled, peeledBytes}

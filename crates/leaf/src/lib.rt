@@ -1,8 +1,6 @@
 // A schema that has no child: its own resolve_ function, by the kind byte. What that function needs of the schema, a size
 // or a precision, is read from the part behind the kind byte.
 use buffer::Answer;
-use types::octets;
-use types::scalars;
 ghost use mathlib.Core.Path.{_≡_};
 ghost use lib.ListN.{getD};
 ghost use Rattle.text.specs.Measured.{Reads};
@@ -61,7 +59,7 @@ pub fn resolve_leaf(s: &[u8], v: &[u8], out: &mut [u8], ds: usize, dv: usize) ->
         return octets::resolve_string(v, out, dv);
     }
     if k == 0x0c {
-        return octets::resolve_enum(s, ds, v, out, dv);
+        return symbols::resolve_enum(s, ds, v, out, dv);
     }
     if k == 0x0d {
         return leaf_fixed(s, v, out, ds, dv);
@@ -75,5 +73,5 @@ pub fn resolve_leaf(s: &[u8], v: &[u8], out: &mut [u8], ds: usize, dv: usize) ->
     if k == 0x19 {
         return octets::resolve_duration(v, out, dv);
     }
-    scalars::resolve_plain(v, out, dv, k)
+    casts::resolve_plain(v, out, dv, k)
 }

@@ -12,10 +12,7 @@ use lib.Seq.{length-take-le, take-add, take-take, take-at, drop-at, drop-drop}
 use Rattle.base.specs.Base.{if_then_else_}
 use Rattle.text.specs.Text.{Text}
 use Rattle.lines.specs.Cut.{lineEnd, hasNewline, firstLine, behindLine}
-use Rattle.lines.specs.Held.{Held, uncut, heldLine, more, isLine, supplied}
-use Rattle.lines.specs.Calls.{Within}
-use Rattle.lines.specs.declared.calls.Step.{Step}
-use Rattle.lines.specs.declared.calls.Step.the-variants.{Took, Nothing, Again, Wait, Failed}
+use Rattle.lines.specs.Held.{Held, uncut, heldLine, more}
 use Rattle.lines.specs.declared.input.Reader.{Reader}
 use Rattle.lines.proofs.CutLaws.{lineEnd-le}
 
@@ -167,20 +164,3 @@ module _ (r : Reader) (block line : List ℕ) (h : Held r block line) where
         let k : lineEnd s < length s = omega (arith, end-is, uncut-length, end-in, h .order) in
         let i : u .at ≡ r .at + suc (lineEnd s) = omega (arith, end-is) in
         (w ∙ sym (lt-ltb (lineEnd s) (length s) k), uncut-at r u block (suc (lineEnd s)) i b)
-
--- ---- a read into the block
-
--- a read that failed leaves no line that is half read
-pub failed-no-line : (r : Reader) → isLine (supplied r Failed) ≡ false
-unfolding isLine supplied
-failed-no-line r = refl
-
--- what it leaves to be cut lies in the block, and it holds no more than before
-pub supplied-in : (r : Reader) (s : Step) (room : ℕ) → Within room s
-    → (supplied r s .at ≤ supplied r s .end) × (supplied r s .end ≤ room) × (supplied r s .filled ≤ r .filled)
-unfolding supplied Within
-supplied-in r (Took n) room w = (omega arith, w .1, omega arith)
-supplied-in r Nothing room w = (omega arith, omega arith, omega arith)
-supplied-in r Again room w = (omega arith, omega arith, omega arith)
-supplied-in r Wait room w = (omega arith, omega arith, omega arith)
-supplied-in r Failed room w = (omega arith, omega arith, omega arith)

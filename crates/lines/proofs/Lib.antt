@@ -1,4 +1,3 @@
-pub mod CallLaws
 pub mod CutLaws
 pub mod HeldLaws
 pub mod LineLaws

@@ -1,4 +1,3 @@
-pub mod Calls
 pub mod Cut
 pub mod Held
 pub mod Line

@@ -1,16 +1,12 @@
-// Standard input cut into lines: it is read in blocks, and one line is held at a time.
-// No contract of the language says what is read. What a read makes of the reader, and what each step cuts from a block and holds of a line, is
-// proved; `finish` and `next`, which read, are proved safe only.
-use crate::calls;
-use crate::calls::Step;
+// A text that comes in blocks cut into lines: one line is held at a time. What each step cuts from a block and holds of a line is proved.
 ghost use mathlib.Core.Path.{_≡_};
 ghost use mathlib.Core.Bool.{false};
 ghost use mathlib.Core.List.{[]};
 ghost use mathlib.Core.Option.{some};
-ghost use Prim.Native.Nat.{_≤_, _<_};
+ghost use Prim.Native.Nat.{_≤_};
 ghost use lib.ListN.{length};
 ghost use Rattle.lines.specs.Cut.{lineEnd, hasNewline, firstLine, behindLine};
-ghost use Rattle.lines.specs.Held.{Held, uncut, heldLine, more, isLine, Refilled, spent as Held·spent, supplied as Held·supplied};
+ghost use Rattle.lines.specs.Held.{Held, uncut, heldLine, more, isLine};
 
 // How far the input is cut: the block's bytes from `at` to `end` are still to be cut; `filled` characters of the last line are held, none
 // where it is `long`, longer than there is room for; whether it is `whole`; and whether the input is `over`, ended or failed.
@@ -50,74 +46,6 @@ fn line_end(s: &[u8]) -> usize
     at
 }
 
-// A reader with nothing to come and nothing held.
-fn spent() -> Reader
-    ensures { λ t. ⌜ t ≡ Held·spent ⌝ }
-{
-    Reader {
-        at: 0,
-        end: 0,
-        filled: 0,
-        long: false,
-        whole: false,
-        over: true,
-    }
-}
-
-// The reader after a read into its block. Of a line that was half read when a read failed nothing is held.
-fn supplied(r: Reader, s: Step) -> Reader
-    ensures { λ t. ⌜ t ≡ Held·supplied r s ⌝ }
-{
-    match s {
-        Step::Took(n) => Reader {
-            at: 0,
-            end: n,
-            filled: r.filled,
-            long: r.long,
-            whole: false,
-            over: false,
-        },
-        Step::Nothing => Reader {
-            at: 0,
-            end: 0,
-            filled: r.filled,
-            long: r.long,
-            whole: false,
-            over: true,
-        },
-        Step::Again => spent(),
-        Step::Wait => spent(),
-        Step::Failed => spent(),
-    }
-}
-
-// A read that failed is told of on standard error.
-fn told(s: Step) {
-    match s {
-        Step::Took(_) => {}
-        Step::Nothing => {}
-        _ => os::fail(b"standard input"),
-    }
-}
-
-// A new block where the last one is used up, unless the input is over.
-fn refilled(r: Reader, block: &mut [u8]) -> Reader
-    requires { ⌜ (r .at ≤ r .end) × (r .end ≤ length (now block)) ⌝ }
-    ensures { λ t. ⌜ (t .at ≤ t .end) × (t .end ≤ length (now (block .exit))) × (t .filled ≤ r .filled) ⌝ }
-    ensures { λ t. ⌜ (r .at < r .end → uncut t (now (block .exit)) ≡ uncut r (now (block .entry))) ⌝ }
-    ensures { λ t. ⌜ Refilled r t ⌝ }
-{
-    if r.at < r.end {
-        return r;
-    }
-    if r.over {
-        return r;
-    }
-    let s = calls::read(block);
-    told(s);
-    supplied(r, s)
-}
-
 // A piece of a line behind what is held of it, if it fits.
 fn kept(r: Reader, piece: &[u8], line: &mut [u8]) -> Reader
     requires { ⌜ r .filled ≤ length (now line) ⌝ }
@@ -150,7 +78,7 @@ fn kept(r: Reader, piece: &[u8], line: &mut [u8]) -> Reader
 }
 
 // The block's bytes up to the line's end, and past its newline.
-fn cut(r: Reader, block: &[u8], line: &mut [u8]) -> Reader
+pub fn cut(r: Reader, block: &[u8], line: &mut [u8]) -> Reader
     requires { ⌜ Held r (now block) (now line) ⌝ }
     ensures { λ t. ⌜ Held t (now (block .entry)) (now (line .exit)) ⌝ }
     ensures { λ t. ⌜ heldLine t (now (line .exit)) ≡ more (length (now (line .entry))) (heldLine r (now (line .entry))) (firstLine (uncut r (now (block .entry)))) ⌝ }
@@ -183,7 +111,7 @@ fn cut(r: Reader, block: &[u8], line: &mut [u8]) -> Reader
 }
 
 // The input has ended: a last line may lack its newline.
-fn last(r: Reader) -> Reader
+pub fn last(r: Reader) -> Reader
     ensures { λ t. ⌜ (t .at ≡ r .at) × (t .end ≡ r .end) × (t .filled ≡ r .filled) × (t .long ≡ r .long) × (t .over ≡ r .over) × (t .whole ≡ isLine r) ⌝ }
 {
     let mut t = r;
@@ -208,39 +136,4 @@ pub fn begin(r: Reader, block: &[u8], line: &mut [u8]) -> Reader
         over: r.over,
     };
     cut(t, block, line)
-}
-
-// The rest of a line whose newline is not in the block: it is read on until there is one or the input is over. `whole` says whether there is a
-// line; there is none of a line that was half read when a read failed.
-// A proved loop has to end, and nothing says that a line does. So the turns are counted down from a number that no line uses up.
-pub fn finish(r: Reader, block: &mut [u8], line: &mut [u8]) -> Reader
-    requires { ⌜ Held r (now block) (now line) ⌝ }
-    ensures { λ t. ⌜ Held t (now (block .exit)) (now (line .exit)) ⌝ }
-{
-    let mut t = r;
-    let mut turns = u64::MAX;
-    while turns > 0 {
-        t = refilled(t, block);
-        if t.at == t.end {
-            return last(t);
-        }
-        t = cut(t, block, line);
-        if t.whole {
-            return t;
-        }
-        turns -= 1;
-    }
-    t
-}
-
-// The next line, if `whole`.
-pub fn next(r: Reader, block: &mut [u8], line: &mut [u8]) -> Reader
-    requires { ⌜ Held r (now block) (now line) ⌝ }
-    ensures { λ t. ⌜ Held t (now (block .exit)) (now (line .exit)) ⌝ }
-{
-    let t = begin(r, block, line);
-    if t.whole {
-        return t;
-    }
-    finish(t, block, line)
 }

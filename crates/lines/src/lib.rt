@@ -1,7 +1,5 @@
-// Lines of the programs: standard input cut into lines and standard output, the frame that a line stands for, and the line for an answer.
-pub mod calls;
+// Lines of the programs: a text cut into lines, the frame that a line stands for, and the line for an answer.
 pub mod input;
-pub mod output;
 
 ghost use mathlib.Core.Path.{_≡_};
 ghost use mathlib.Core.List.{[], _∷_, _++_};

@@ -1,7 +1,7 @@
 // A line of the input: the name of a leaf, a space, and what it is given.
 use crate::number_line;
 use crate::text_line;
-use lines::output::put;
+use streams::output::put;
 ghost use Prim.Native.Nat.{_≤_};
 ghost use lib.ListN.{length};
 

@@ -13,7 +13,7 @@ fn all(block: &mut [u8], text: &mut [u8]) {
     let mut ok = true;
     let mut turns = u64::MAX;
     while turns > 0 {
-        r = lines::input::next(r, block, text);
+        r = streams::input::next(r, block, text);
         if !r.whole || !ok {
             return;
         }
@@ -24,7 +24,7 @@ fn all(block: &mut [u8], text: &mut [u8]) {
 }
 
 fn main() {
-    if lines::output::usage(
+    if streams::output::usage(
         os::arg_count(),
         b"usage: published < EXAMPLES\nReads worked examples, a line each, from standard input. It takes no arguments.\n",
     ) {

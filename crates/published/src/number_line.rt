@@ -2,9 +2,9 @@
 use crate::told::Told;
 use crate::told::known;
 use crate::told::unknown;
-use lines::output::put;
-use lines::output::put_decimal;
-use lines::output::put_hex;
+use streams::output::put;
+use streams::output::put_decimal;
+use streams::output::put_hex;
 
 fn put4(ok: bool, b: u32) -> bool {
     put_hex(ok, b as u64, 8)
@@ -24,23 +24,23 @@ fn long_to_int_of(ok: bool, b: u64) -> bool {
 // The conversions of an Int.
 fn of_int(ok: bool, name: &[u8], b: u32) -> Told {
     if text::same(name, b"int-to-long") {
-        return known(put8(ok, scalar::int_to_long(b)));
+        return known(put8(ok, bits::int_to_long(b)));
     }
     if text::same(name, b"int-to-float") {
-        return known(put4(ok, scalar::int_to_float(b)));
+        return known(put4(ok, bits::int_to_float(b)));
     }
     if text::same(name, b"int-to-double") {
-        return known(put8(ok, scalar::int_to_double(b)));
+        return known(put8(ok, bits::int_to_double(b)));
     }
     unknown(ok)
 }
 
 fn of_float(ok: bool, name: &[u8], b: u32) -> Told {
     if text::same(name, b"float-to-float") {
-        return known(put4(ok, scalar::float_to_float(b)));
+        return known(put4(ok, bits::float_to_float(b)));
     }
     if text::same(name, b"float-to-double") {
-        return known(put8(ok, scalar::float_to_double(b)));
+        return known(put8(ok, bits::float_to_double(b)));
     }
     unknown(ok)
 }
@@ -58,20 +58,20 @@ fn of_long(ok: bool, name: &[u8], b: u64) -> Told {
         return known(long_to_int_of(ok, b));
     }
     if text::same(name, b"long-to-float") {
-        return known(put4(ok, scalar::long_to_float(b)));
+        return known(put4(ok, bits::long_to_float(b)));
     }
     if text::same(name, b"long-to-double") {
-        return known(put8(ok, scalar::long_to_double(b)));
+        return known(put8(ok, bits::long_to_double(b)));
     }
     unknown(ok)
 }
 
 fn of_double(ok: bool, name: &[u8], b: u64) -> Told {
     if text::same(name, b"double-to-float") {
-        return known(put4(ok, scalar::double_to_float(b)));
+        return known(put4(ok, bits::double_to_float(b)));
     }
     if text::same(name, b"double-to-double") {
-        return known(put8(ok, scalar::double_to_double(b)));
+        return known(put8(ok, bits::double_to_double(b)));
     }
     unknown(ok)
 }

@@ -2,8 +2,8 @@
 use crate::told::Told;
 use crate::told::known;
 use crate::told::unknown;
-use lines::output::put;
-use lines::output::put_hex;
+use streams::output::put;
+use streams::output::put_hex;
 ghost use mathlib.Core.Path.{_≡_};
 ghost use mathlib.Core.Bool.{true};
 ghost use Rattle.utf8.specs.Utf8.{isUtf8};
@@ -58,9 +58,9 @@ fn uuid_of(ok: bool, s: &[u8]) -> bool {
 }
 
 fn float_text_of(ok: bool, s: &[u8]) -> bool {
-    match scalar::parse_special_float(s) {
-        scalar::SpecialFloat::Bits(b) => put_hex(ok, b as u64, 8),
-        scalar::SpecialFloat::NotOne => put(ok, b"none"),
+    match bits::parse_special_float(s) {
+        bits::SpecialFloat::Bits(b) => put_hex(ok, b as u64, 8),
+        bits::SpecialFloat::NotOne => put(ok, b"none"),
     }
 }
 

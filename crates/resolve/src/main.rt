@@ -29,7 +29,7 @@ fn flushed(o: Output, out: &[u8]) -> Output
     let n = o.waits;
     Output {
         waits: 0,
-        ok: lines::output::put(o.ok, &out[0..n]),
+        ok: streams::output::put(o.ok, &out[0..n]),
     }
 }
 
@@ -80,7 +80,7 @@ fn next(r: Reader, o: Output, block: &mut [u8], line: &mut [u8], out: &[u8]) -> 
     if !output.ok {
         return Turn { reader, output };
     }
-    let finished = lines::input::finish(reader, block, line);
+    let finished = streams::input::finish(reader, block, line);
     Turn {
         reader: finished,
         output,
@@ -131,7 +131,7 @@ fn run(
 )
     requires { ⌜ Buffers (now value) (now result) (now workspace) (now out) ⌝ }
 {
-    let r = lines::input::next(lines::input::start(), block, line);
+    let r = streams::input::next(lines::input::start(), block, line);
     let filled = r.filled;
     let n = lines::frame(&line[0..filled], schema);
     let o = values(r, block, line, &schema[0..n], value, result, workspace, out);
@@ -140,7 +140,7 @@ fn run(
 
 // How the program is used.
 fn asked() -> bool {
-    lines::output::usage(
+    streams::output::usage(
         os::arg_count(),
         b"usage: resolve < LINES > ANSWERS\n\
 Brings Avro values to a reader schema. It takes no arguments.\n\

@@ -1,6 +1,6 @@
 // The lines of a list of recorded answers, one by one.
-use lines::output::put;
-use lines::output::put_decimal;
+use streams::output::put;
+use streams::output::put_decimal;
 ghost use lib.ListN.{length};
 ghost use mathlib.Core.Path.{_≡_};
 ghost use Prim.Native.Nat.{_≤_, _<_};

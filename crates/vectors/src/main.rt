@@ -4,8 +4,8 @@
 mod list;
 
 use crate::list::Replay;
-use lines::output::put;
-use lines::output::put_decimal;
+use streams::output::put;
+use streams::output::put_decimal;
 ghost use lib.ListN.{length};
 ghost use mathlib.Core.Path.{_≡_};
 ghost use Rattle.vectors.specs.Buffers.{Buffers};
@@ -27,7 +27,7 @@ fn run(
     let mut t = list::start();
     let mut turns = u64::MAX;
     while turns > 0 {
-        r = lines::input::next(r, block, line);
+        r = streams::input::next(r, block, line);
         if !r.whole {
             return t;
         }
@@ -86,7 +86,7 @@ fn totals(t: Replay, accepted: u64) -> bool {
 
 // Whether there are arguments; the usage then.
 fn asked() -> bool {
-    lines::output::usage(
+    streams::output::usage(
         os::arg_count(),
         b"usage: vectors < LIST\nReads a list of recorded answers from standard input. It takes no arguments.\n",
     )

@@ -4,8 +4,9 @@ use Rattle.number.proofs.Laws.{getD-allBytes}
 use Rattle.frame.specs.Tree.{kindOf, octets}
 use Rattle.frame.proofs.ValueNodes.{value-there}
 use Rattle.types.specs.Types.{resolve-bytes}
-use Rattle.types.proofs.NodeLaws.{kind-refused}
-use Rattle.types.proofs.PartLaws.{content-Bytes, content-String, counted-reads, text-reads-counted, wrote-counted, on-counted, on-text}
+use Rattle.types.proofs.Contents.{bytes-content, string-content}
+use Rattle.types.proofs.NodeLaws.{text-reads-counted, kind-refused}
+use Rattle.types.proofs.PartLaws.{counted-reads, wrote-counted, on-counted, on-text}
 use Rattle.types.proofs.OctetLaws.{bytes-other}
 use Rattle.bytewise.proofs.ByteLaws.{array-reads, array-answer}
 use borrow.Author.Needs.{needs}
@@ -17,7 +18,7 @@ shared-slice-read-if1 : tie.Need-shared-slice-read-if1
 shared-slice-read-if1 c = value-there _ _ (c .before .before .before .pre) .1
 
 content-requires : tie.Need-content-requires
-content-requires c κs = counted-reads _ _ (c .before .before .before .before .before .pre) 6 content-Bytes (c .before .if1 .taken)
+content-requires c κs = counted-reads _ _ (c .before .before .before .before .before .pre) 6 bytes-content (c .before .if1 .taken)
 
 put-counted-requires : tie.Need-put-counted-requires
 put-counted-requires c κs = search needs
@@ -27,13 +28,13 @@ same-length c = search needs
 
 returns : tie.Need-returns
 unfolding resolve-bytes kindOf octets
-returns c = on-counted resolve-bytes _ _ (c .before .before .before .before .before .before .before .before .before .pre) 6 _ _ _ content-Bytes (c .before .before .before .before .before .if1 .taken) (c .before .before .before .content .ensures) (wrote-counted 6 _ _ _ content-Bytes (c .before .before .put-counted .ensures))
+returns c = on-counted resolve-bytes _ _ (c .before .before .before .before .before .before .before .before .before .pre) 6 _ _ _ bytes-content (c .before .before .before .before .before .if1 .taken) (c .before .before .before .content .ensures) (wrote-counted 6 _ _ _ bytes-content (c .before .before .put-counted .ensures))
 
 shared-slice-read-if2 : tie.Need-shared-slice-read-if2
 shared-slice-read-if2 c = value-there _ _ (c .before .before .before .before .before .pre) .1
 
 content-requires-2 : tie.Need-content-requires-2
-content-requires-2 c κs = text-reads-counted _ _ (c .before .before .before .before .before .before .before .pre) 7 content-String (c .before .if2 .taken)
+content-requires-2 c κs = text-reads-counted _ _ (c .before .before .before .before .before .before .before .pre) 7 string-content (c .before .if2 .taken)
 
 put-counted-requires-2 : tie.Need-put-counted-requires-2
 put-counted-requires-2 c κs = search needs
@@ -43,7 +44,7 @@ same-length-2 c = search needs
 
 returns-2 : tie.Need-returns-2
 unfolding resolve-bytes kindOf octets
-returns-2 c = on-text resolve-bytes _ _ (c .before .before .before .before .before .before .before .before .before .before .before .pre) _ _ _ (c .before .before .before .before .before .if2 .taken) (c .before .before .before .content2 .ensures) (wrote-counted 6 _ _ _ content-Bytes (c .before .before .put-counted2 .ensures))
+returns-2 c = on-text resolve-bytes _ _ (c .before .before .before .before .before .before .before .before .before .before .before .pre) _ _ _ (c .before .before .before .before .before .if2 .taken) (c .before .before .before .content2 .ensures) (wrote-counted 6 _ _ _ bytes-content (c .before .before .put-counted2 .ensures))
 
 shared-slice-read-if3 : tie.Need-shared-slice-read-if3
 shared-slice-read-if3 c = value-there _ _ (c .before .before .before .before .before .before .before .pre) .1

@@ -1,0 +1,43 @@
+-- One of the five texts is a Float, and any other is refused.
+use mathlib.Core.Path.{refl}
+use borrow.Author.Needs.{needs}
+use Rattle.casts.proofs.FloatLaws.{to-float, bits-way, none-way}
+use Rattle.casts.proofs.float_of_text.Statement.{statement}
+use Rattle.casts.proofs.float_of_text.Tie as tie
+
+content-requires : tie.Need-content-requires
+content-requires c κs = search needs
+
+parse-special-float-requires : tie.Need-parse-special-float-requires
+parse-special-float-requires c κs = search needs
+
+enum-known-b : tie.Need-enum-known-b
+enum-known-b c = search needs
+
+put-node4-requires : tie.Need-put-node4-requires
+put-node4-requires c κs = search needs
+
+same-length : tie.Need-same-length
+same-length c = search needs
+
+returns : tie.Need-returns
+returns c = bits-way to-float _ _ _ (c .before .before .before .before .before .before .before .before .content .ensures .0) _ (c .before .before .before .before .before .before .before .parse-special-float .ensures) _ _ _ (c .before .before .before .before .before .b .given .1) refl _ (c .before .before .put-node4 .ensures)
+
+enum-told : tie.Need-enum-told
+enum-told c = search needs
+
+returns-2 : tie.Need-returns-2
+returns-2 c = none-way to-float _ _ _ (c .before .before .before .content .ensures .0) _ (c .before .before .parse-special-float .ensures) _ (c .enum-told .given .1)
+
+pub float-of-text-spec : {M : Type 1} → statement M
+float-of-text-spec =
+    tie.close
+    (tie.spec
+    content-requires
+    parse-special-float-requires
+    enum-known-b
+    put-node4-requires
+    same-length
+    returns
+    enum-told
+    returns-2)

@@ -1,0 +1,292 @@
+// The `resolve_` functions of src/types.rs for a String, a Fixed, a Decimal, a Uuid and a Duration: each takes a part that holds a value and
+// writes the result into what is left of the result buffer.
+use buffer::Answer;
+use duration::Duration;
+ghost use mathlib.Core.Path.{_≡_};
+ghost use mathlib.Core.List.{List, _∷_, _++_};
+ghost use mathlib.Core.Bool.{true};
+ghost use mathlib.Core.Option.{some, none};
+ghost use Prim.Native.Nat.{ℕ, _<_, _≤_};
+ghost use lib.ListN.{length, drop};
+ghost use Rattle.base.specs.Base.{if_then_else_, ok, after};
+ghost use Rattle.number.specs.Number.{bytesOf};
+ghost use Rattle.utf8.specs.Utf8.{isUtf8, codePoints, allLatin1};
+ghost use Rattle.text.specs.Measured.{Reads};
+ghost use Rattle.text.specs.Read.{readCounted};
+ghost use Rattle.uuid.specs.Uuid.{uuidOfText};
+ghost use Rattle.frame.specs.Kind;
+ghost use Rattle.frame.specs.Tree.{Value, UuidForm};
+ghost use Rattle.frame.specs.ValueFrame.{readValue};
+ghost use Rattle.buffer.specs.Built.{Built, Wrote};
+ghost use Rattle.types.specs.Types.{resolve-string, resolve-fixed, resolve-decimal, resolve-uuid, resolve-duration, stringOfBytes, fixedOfBytes, decimalOfBytes, durationOfBytes, fixedTooShort, textPoints, uuidOfBytes, parsedUuid};
+ghost use Rattle.types.specs.Contract.{encoded, onRead, points, HoldsBytes};
+
+// The bytes behind a node's kind and length.
+pub fn content(v: &[u8]) -> &[u8]
+    requires { ⌜ Reads (readCounted (drop 1 (now v))) ⌝ }
+    ensures { λ r. ⌜ HoldsBytes (now (v .entry)) (now r) ⌝ }
+{
+    text::content(&v[1..])
+}
+
+// A node of a kind, a length and bytes.
+pub fn put_counted(out: &mut [u8], kind: u8, t: &[u8]) -> usize
+    requires { ⌜ length (now t) < 65536 ⌝ }
+    ensures { λ r. ⌜ Built (kind ∷ (bytesOf 2 (length (now (t .entry))) ++ now (t .entry))) (now (out .exit)) r ⌝ }
+{
+    let n = t.len();
+    let h = [kind, (n / 256) as u8, (n % 256) as u8];
+    let at = buffer::put(out, &h);
+    buffer::append(out, at, t)
+}
+
+// A node of a kind and bytes, as many as its kind has.
+pub fn put_plain(out: &mut [u8], kind: u8, t: &[u8]) -> usize
+    ensures { λ r. ⌜ Built (kind ∷ now (t .entry)) (now (out .exit)) r ⌝ }
+{
+    let h = [kind; 1];
+    let at = buffer::put(out, &h);
+    buffer::append(out, at, t)
+}
+
+fn string_of(t: &[u8], out: &mut [u8]) -> Answer
+    requires { ⌜ length (now t) < 65536 ⌝ }
+    ensures { λ r. ⌜ Wrote (encoded (stringOfBytes (now (t .entry)))) (now (out .exit)) r ⌝ }
+{
+    if utf8::is_utf8(t) {
+        return Answer::Accepted(put_counted(out, 7, t));
+    }
+    Answer::Refused(9)
+}
+
+pub fn resolve_string(v: &[u8], out: &mut [u8], depth: usize) -> Answer
+    requires { ⌜ Reads (readValue depth (now v)) ⌝ }
+    ensures { λ r. ⌜ Wrote (onRead (λ w. encoded (resolve-string w)) (readValue depth (now (v .entry)))) (now (out .exit)) r ⌝ }
+{
+    if v[0] == 7 {
+        return Answer::Accepted(put_counted(out, 7, content(v)));
+    }
+    if v[0] == 6 {
+        return string_of(content(v), out);
+    }
+    if v[0] == 13 {
+        return string_of(content(v), out);
+    }
+    Answer::Refused(6)
+}
+
+fn fixed_of(size: usize, t: &[u8], out: &mut [u8]) -> Answer
+    requires { ⌜ length (now t) < 65536 ⌝ }
+    ensures { λ r. ⌜ Wrote (encoded (fixedOfBytes size (now (t .entry)))) (now (out .exit)) r ⌝ }
+{
+    if t.len() == size {
+        return Answer::Accepted(put_counted(out, 13, t));
+    }
+    Answer::Refused(10)
+}
+
+// A String's length is not looked at.
+pub fn resolve_fixed(size: usize, v: &[u8], out: &mut [u8], depth: usize) -> Answer
+    requires { ⌜ Reads (readValue depth (now v)) ⌝ }
+    ensures { λ r. ⌜ Wrote (onRead (λ w. encoded (resolve-fixed size w)) (readValue depth (now (v .entry)))) (now (out .exit)) r ⌝ }
+{
+    if v[0] == 7 {
+        return Answer::Accepted(put_counted(out, 13, content(v)));
+    }
+    if v[0] == 13 {
+        return fixed_of(size, content(v), out);
+    }
+    if v[0] == 6 {
+        return fixed_of(size, content(v), out);
+    }
+    Answer::Refused(6)
+}
+
+// 16 bytes are a UUID; any other length is refusal n.
+fn uuid_of(n: u8, t: &[u8], out: &mut [u8]) -> Answer
+    ensures { λ r. ⌜ Wrote (encoded (uuidOfBytes n (now (t .entry)))) (now (out .exit)) r ⌝ }
+{
+    if t.len() == 16 {
+        return Answer::Accepted(put_plain(out, 15, t));
+    }
+    Answer::Refused(n)
+}
+
+fn uuid_text(t: &[u8], out: &mut [u8]) -> Answer
+    ensures { λ r. ⌜ Wrote (encoded (parsedUuid (uuidOfText (now (t .entry))))) (now (out .exit)) r ⌝ }
+{
+    let p = uuid::parse_str(t);
+    if p.ok {
+        let b = p.bytes;
+        return Answer::Accepted(put_plain(out, 15, &b));
+    }
+    Answer::Refused(11)
+}
+
+// resolve_uuid for a Uuid on bytes.
+pub fn resolve_uuid_bytes(v: &[u8], out: &mut [u8], depth: usize) -> Answer
+    requires { ⌜ Reads (readValue depth (now v)) ⌝ }
+    ensures { λ r. ⌜ Wrote (onRead (λ w. encoded (resolve-uuid UuidForm.bytes w)) (readValue depth (now (v .entry)))) (now (out .exit)) r ⌝ }
+{
+    if v[0] == 15 {
+        return Answer::Accepted(put_plain(out, 15, &v[1..17]));
+    }
+    if v[0] == 6 {
+        return uuid_of(11, content(v), out);
+    }
+    Answer::Refused(6)
+}
+
+// resolve_uuid for a Uuid on a string.
+pub fn resolve_uuid_string(v: &[u8], out: &mut [u8], depth: usize) -> Answer
+    requires { ⌜ Reads (readValue depth (now v)) ⌝ }
+    ensures { λ r. ⌜ Wrote (onRead (λ w. encoded (resolve-uuid UuidForm.string w)) (readValue depth (now (v .entry)))) (now (out .exit)) r ⌝ }
+{
+    if v[0] == 15 {
+        return Answer::Accepted(put_plain(out, 15, &v[1..17]));
+    }
+    if v[0] == 7 {
+        return uuid_text(content(v), out);
+    }
+    Answer::Refused(6)
+}
+
+// resolve_uuid for a Uuid on a fixed, whose size is not looked at.
+pub fn resolve_uuid_fixed(size: usize, v: &[u8], out: &mut [u8], depth: usize) -> Answer
+    requires { ⌜ Reads (readValue depth (now v)) ⌝ }
+    ensures { λ r. ⌜ Wrote (onRead (λ w. encoded (resolve-uuid (UuidForm.fixed size) w)) (readValue depth (now (v .entry)))) (now (out .exit)) r ⌝ }
+{
+    if v[0] == 15 {
+        return Answer::Accepted(put_plain(out, 15, &v[1..17]));
+    }
+    if v[0] == 13 {
+        return uuid_of(10, content(v), out);
+    }
+    if v[0] == 7 {
+        return uuid_of(10, content(v), out);
+    }
+    Answer::Refused(6)
+}
+
+// 12 bytes as a Duration: its months, days and milliseconds are taken, and written.
+fn put_duration(t: &[u8], out: &mut [u8]) -> usize
+    requires { ⌜ length (now t) ≡ 12 ⌝ }
+    ensures { λ r. ⌜ Built (Kind.Duration ∷ now (t .entry)) (now (out .exit)) r ⌝ }
+{
+    let mut b = [0u8; 12];
+    buffer::copy(&mut b, t);
+    let d = Duration::from_bytes(b).to_bytes();
+    put_plain(out, 25, &d)
+}
+
+fn duration_of(t: &[u8], out: &mut [u8]) -> Answer
+    ensures { λ r. ⌜ Wrote (encoded (durationOfBytes (now (t .entry)))) (now (out .exit)) r ⌝ }
+{
+    if t.len() == 12 {
+        return Answer::Accepted(put_duration(t, out));
+    }
+    Answer::Refused(10)
+}
+
+pub fn resolve_duration(v: &[u8], out: &mut [u8], depth: usize) -> Answer
+    requires { ⌜ Reads (readValue depth (now v)) ⌝ }
+    ensures { λ r. ⌜ Wrote (onRead (λ w. encoded (resolve-duration w)) (readValue depth (now (v .entry)))) (now (out .exit)) r ⌝ }
+{
+    if v[0] == 25 {
+        return Answer::Accepted(put_duration(&v[1..13], out));
+    }
+    if v[0] == 13 {
+        return duration_of(content(v), out);
+    }
+    Answer::Refused(6)
+}
+
+fn fixed_too_short(precision: u32, sized: bool, size: usize) -> bool
+    ensures { λ r. ⌜ r ≡ fixedTooShort precision (if sized then some size else none) ⌝ }
+{
+    if sized {
+        return decimal::too_short_for(precision, size);
+    }
+    false
+}
+
+fn decimal_of(precision: u32, t: &[u8], out: &mut [u8]) -> Answer
+    requires { ⌜ length (now t) < 65536 ⌝ }
+    ensures { λ r. ⌜ Wrote (encoded (decimalOfBytes precision (now (t .entry)))) (now (out .exit)) r ⌝ }
+{
+    if decimal::too_short_for(precision, t.len()) {
+        return Answer::Refused(14);
+    }
+    Answer::Accepted(put_counted(out, 14, t))
+}
+
+// A text's n code points, a byte for each, at the front of a slice, if they fit.
+fn put_points(t: &[u8], n: usize, out: &mut [u8]) -> usize
+    requires { ⌜ (isUtf8 (now t) ≡ true) × (allLatin1 (points (now t)) ≡ true) × (n ≡ length (points (now t))) ⌝ }
+    ensures { λ r. ⌜ Built (points (now (t .entry))) (now (out .exit)) r ⌝ }
+{
+    let r = buffer::room(n, 65536);
+    if n <= out.len() {
+        utf8::latin1(t, out);
+        return r;
+    }
+    r
+}
+
+// A text's code points behind a result of `at` bytes.
+fn append_points(t: &[u8], n: usize, out: &mut [u8], at: usize) -> usize
+    requires { ⌜ (isUtf8 (now t) ≡ true) × (allLatin1 (points (now t)) ≡ true) × (n ≡ length (points (now t))) × (at ≤ 65536) ⌝ }
+    ensures { λ r. ⌜ ((b : List ℕ) → Built b (now (out .entry)) at → Built (b ++ points (now (t .entry))) (now (out .exit)) r) ⌝ }
+{
+    let o = buffer::room(at, out.len());
+    let m = put_points(t, n, &mut out[o..]);
+    buffer::joined(at, m)
+}
+
+// A decimal's digits as text: each code point is a byte.
+fn decimal_text(t: &[u8], out: &mut [u8]) -> Answer
+    requires { ⌜ (isUtf8 (now t) ≡ true) × (length (now t) < 65536) ⌝ }
+    ensures { λ r. ⌜ Wrote (encoded (after (textPoints (codePoints (now (t .entry)))) (λ s. ok (Value.Octets Kind.Decimal s)))) (now (out .exit)) r ⌝ }
+{
+    match utf8::latin1_len(t) {
+        utf8::Points::Of(n) => {
+            let h = [14, (n / 256) as u8, (n % 256) as u8];
+            let at = buffer::put(out, &h);
+            Answer::Accepted(append_points(t, n, out, at))
+        }
+        utf8::Points::Above => Answer::Refused(6),
+    }
+}
+
+pub fn resolve_decimal(
+    precision: u32,
+    scale: u32,
+    sized: bool,
+    size: usize,
+    v: &[u8],
+    out: &mut [u8],
+    depth: usize,
+) -> Answer
+    requires { ⌜ Reads (readValue depth (now v)) ⌝ }
+    ensures { λ r. ⌜ Wrote (onRead (λ w. encoded (resolve-decimal precision scale (if sized then some size else none) w)) (readValue depth (now (v .entry)))) (now (out .exit)) r ⌝ }
+{
+    if precision < scale {
+        return Answer::Refused(12);
+    }
+    if fixed_too_short(precision, sized, size) {
+        return Answer::Refused(13);
+    }
+    if v[0] == 14 {
+        return decimal_of(precision, content(v), out);
+    }
+    if v[0] == 13 {
+        return decimal_of(precision, content(v), out);
+    }
+    if v[0] == 6 {
+        return decimal_of(precision, content(v), out);
+    }
+    if v[0] == 7 {
+        return decimal_text(content(v), out);
+    }
+    Answer::Refused(6)
+}
