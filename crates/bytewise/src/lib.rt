@@ -1,6 +1,8 @@
 // resolve_bytes and try_u8 of src/types.rs: a Bytes is kept, a String gives its bytes, and an Array of numbers gives a byte for
 // each item.
+use base::refusal;
 use buffer::Answer;
+use frame::kind;
 use scalar::Cast;
 ghost use mathlib.Core.Path.{_≡_};
 ghost use Rattle.text.specs.Measured.{Reads};
@@ -24,7 +26,7 @@ fn in_byte(n: u64) -> Byte
     if n <= 255 {
         return Byte::Is(n as u8);
     }
-    Byte::Refused(8)
+    Byte::Refused(refusal::ITEM_OUTSIDE_BYTE)
 }
 
 // A value that is resolved as an Int, as a byte.
@@ -34,8 +36,8 @@ fn int_byte(v: &[u8], depth: usize) -> Byte
 {
     match casts::as_int(v, depth) {
         Cast::To(s) => in_byte(s.content()),
-        Cast::Unsuited => Byte::Refused(6),
-        Cast::OutOfRange => Byte::Refused(7),
+        Cast::Unsuited => Byte::Refused(refusal::UNSUITED),
+        Cast::OutOfRange => Byte::Refused(refusal::LONG_OUTSIDE_INT),
     }
 }
 
@@ -44,7 +46,7 @@ fn try_u8(v: &[u8], depth: usize) -> Byte
     requires { ⌜ Reads (readValue depth (now v)) ⌝ }
     ensures { λ r. ⌜ r ≡ byteOf (onRead try-u8 (readValue depth (now (v .entry)))) ⌝ }
 {
-    if v[0] == 10 {
+    if v[0] == kind::UNION {
         return int_byte(&v[5..], depth - 1);
     }
     int_byte(v, depth)
@@ -77,14 +79,14 @@ pub fn resolve_bytes(v: &[u8], out: &mut [u8], depth: usize) -> Answer
     requires { ⌜ Reads (readValue depth (now v)) ⌝ }
     ensures { λ r. ⌜ Wrote (onRead (λ w. encoded (resolve-bytes w)) (readValue depth (now (v .entry)))) (now (out .exit)) r ⌝ }
 {
-    if v[0] == 6 {
+    if v[0] == kind::BYTES {
         return Answer::Accepted(octets::put_counted(out, 6, octets::content(v)));
     }
-    if v[0] == 7 {
+    if v[0] == kind::STRING {
         return Answer::Accepted(octets::put_counted(out, 6, octets::content(v)));
     }
-    if v[0] == 8 {
+    if v[0] == kind::ARRAY {
         return byte_items(&v[1..], out, depth - 1);
     }
-    Answer::Refused(6)
+    Answer::Refused(refusal::UNSUITED)
 }

@@ -1,7 +1,9 @@
 // The `resolve_` functions of src/types.rs for Null, Boolean, the numbers, and the dates and times. A number or a time is read as a scalar,
 // converted, and written as the scalar that comes out.
+use base::refusal;
 use bits::SpecialFloat;
 use buffer::Answer;
+use frame::kind;
 use scalar::Cast;
 use scalar::Scalar;
 ghost use mathlib.Core.Path.{_≡_};
@@ -58,8 +60,8 @@ fn put_cast(out: &mut [u8], c: Cast) -> Answer
 {
     match c {
         Cast::To(s) => Answer::Accepted(put_scalar(out, s)),
-        Cast::Unsuited => Answer::Refused(6),
-        Cast::OutOfRange => Answer::Refused(7),
+        Cast::Unsuited => Answer::Refused(refusal::UNSUITED),
+        Cast::OutOfRange => Answer::Refused(refusal::LONG_OUTSIDE_INT),
     }
 }
 
@@ -79,20 +81,20 @@ fn resolve_null(v: &[u8], out: &mut [u8], depth: usize) -> Answer
     requires { ⌜ Reads (readValue depth (now v)) ⌝ }
     ensures { λ r. ⌜ Wrote (onRead (λ w. encoded (resolve-null w)) (readValue depth (now (v .entry)))) (now (out .exit)) r ⌝ }
 {
-    if v[0] == 0 {
+    if v[0] == kind::NULL {
         return Answer::Accepted(buffer::put(out, &v[..1]));
     }
-    Answer::Refused(6)
+    Answer::Refused(refusal::UNSUITED)
 }
 
 fn resolve_boolean(v: &[u8], out: &mut [u8], depth: usize) -> Answer
     requires { ⌜ Reads (readValue depth (now v)) ⌝ }
     ensures { λ r. ⌜ Wrote (onRead (λ w. encoded (resolve-boolean w)) (readValue depth (now (v .entry)))) (now (out .exit)) r ⌝ }
 {
-    if v[0] == 1 {
+    if v[0] == kind::BOOLEAN {
         return Answer::Accepted(buffer::put(out, &v[..2]));
     }
-    Answer::Refused(6)
+    Answer::Refused(refusal::UNSUITED)
 }
 
 // A node as an Int.
@@ -120,7 +122,7 @@ fn resolve_long(v: &[u8], out: &mut [u8], depth: usize) -> Answer
     if scalar::is_scalar(v[0]) {
         return put_cast(out, scalar_at(v, depth).to_long());
     }
-    Answer::Refused(6)
+    Answer::Refused(refusal::UNSUITED)
 }
 
 // A text as a Float: one of those that parse_special_float knows.
@@ -130,7 +132,7 @@ fn float_of_text(s: &[u8], out: &mut [u8]) -> Answer
 {
     match bits::parse_special_float(text::content(s)) {
         SpecialFloat::Bits(b) => return Answer::Accepted(put_node4(out, 4, b)),
-        SpecialFloat::NotOne => return Answer::Refused(6),
+        SpecialFloat::NotOne => return Answer::Refused(refusal::UNSUITED),
     }
 }
 
@@ -139,22 +141,22 @@ fn resolve_float(v: &[u8], out: &mut [u8], depth: usize) -> Answer
     ensures { λ r. ⌜ Wrote (onRead (λ w. encoded (resolve-float w)) (readValue depth (now (v .entry)))) (now (out .exit)) r ⌝ }
 {
     let k = v[0];
-    if k == 2 {
+    if k == kind::INT {
         return Answer::Accepted(put_node4(out, 4, bits::int_to_float(number::read4(v, 1))));
     }
-    if k == 3 {
+    if k == kind::LONG {
         return Answer::Accepted(put_node4(out, 4, bits::long_to_float(number::read8(v, 1))));
     }
-    if k == 4 {
+    if k == kind::FLOAT {
         return Answer::Accepted(put_node4(out, 4, bits::float_to_float(number::read4(v, 1))));
     }
-    if k == 5 {
+    if k == kind::DOUBLE {
         return Answer::Accepted(put_node4(out, 4, bits::double_to_float(number::read8(v, 1))));
     }
-    if k == 7 {
+    if k == kind::STRING {
         return float_of_text(&v[1..], out);
     }
-    Answer::Refused(6)
+    Answer::Refused(refusal::UNSUITED)
 }
 
 // A text as a Double: that Float, widened.
@@ -168,7 +170,7 @@ fn double_of_text(s: &[u8], out: &mut [u8]) -> Answer
             5,
             bits::float_to_double(b),
         )),
-        SpecialFloat::NotOne => return Answer::Refused(6),
+        SpecialFloat::NotOne => return Answer::Refused(refusal::UNSUITED),
     }
 }
 
@@ -177,22 +179,22 @@ fn resolve_double(v: &[u8], out: &mut [u8], depth: usize) -> Answer
     ensures { λ r. ⌜ Wrote (onRead (λ w. encoded (resolve-double w)) (readValue depth (now (v .entry)))) (now (out .exit)) r ⌝ }
 {
     let k = v[0];
-    if k == 2 {
+    if k == kind::INT {
         return Answer::Accepted(put_node8(out, 5, bits::int_to_double(number::read4(v, 1))));
     }
-    if k == 3 {
+    if k == kind::LONG {
         return Answer::Accepted(put_node8(out, 5, bits::long_to_double(number::read8(v, 1))));
     }
-    if k == 4 {
+    if k == kind::FLOAT {
         return Answer::Accepted(put_node8(out, 5, bits::float_to_double(number::read4(v, 1))));
     }
-    if k == 5 {
+    if k == kind::DOUBLE {
         return Answer::Accepted(put_node8(out, 5, bits::double_to_double(number::read8(v, 1))));
     }
-    if k == 7 {
+    if k == kind::STRING {
         return double_of_text(&v[1..], out);
     }
-    Answer::Refused(6)
+    Answer::Refused(refusal::UNSUITED)
 }
 
 // resolve_date to resolve_local_timestamp_nanos, by the kind.
@@ -203,7 +205,7 @@ fn resolve_time(v: &[u8], out: &mut [u8], depth: usize, kind: u8) -> Answer
     if scalar::is_scalar(v[0]) {
         return put_cast(out, scalar_at(v, depth).to_time(kind));
     }
-    Answer::Refused(6)
+    Answer::Refused(refusal::UNSUITED)
 }
 
 // The resolution of a schema that is its kind alone. Bytes and String are not among these kinds.
@@ -211,22 +213,22 @@ pub fn resolve_plain(v: &[u8], out: &mut [u8], depth: usize, kind: u8) -> Answer
     requires { ⌜ Reads (readValue depth (now v)) × (kind ≤ 0x18) × (5 < kind → 0x10 ≤ kind) ⌝ }
     ensures { λ r. ⌜ Wrote (onRead (λ w. encoded (resolvePlain kind w)) (readValue depth (now (v .entry)))) (now (out .exit)) r ⌝ }
 {
-    if 0x10 <= kind {
+    if kind::DATE <= kind {
         return resolve_time(v, out, depth, kind);
     }
-    if kind == 0 {
+    if kind == kind::NULL {
         return resolve_null(v, out, depth);
     }
-    if kind == 1 {
+    if kind == kind::BOOLEAN {
         return resolve_boolean(v, out, depth);
     }
-    if kind == 2 {
+    if kind == kind::INT {
         return resolve_int(v, out, depth);
     }
-    if kind == 3 {
+    if kind == kind::LONG {
         return resolve_long(v, out, depth);
     }
-    if kind == 4 {
+    if kind == kind::FLOAT {
         return resolve_float(v, out, depth);
     }
     resolve_double(v, out, depth)

@@ -2,6 +2,7 @@
 // against a variant whose own defaults are known to be short, so inner schemas come first.
 use buffer::Answer;
 use field::field_at;
+use frame::kind;
 use schema::schema_len;
 use walk::Walk;
 use walk::resolve_node;
@@ -33,19 +34,19 @@ fn short_len(s: &[u8], out: &mut [u8], ds: usize) -> usize
     ensures { λ r. ⌜ ShortLen defaultsShort (readSchema ds (now (s .entry))) (now (s .entry)) r ⌝ }
 {
     let k = s[0];
-    if k == 0x08 {
+    if k == kind::ARRAY {
         return next(short_len(&s[1..], out, ds - 1));
     }
-    if k == 0x09 {
+    if k == kind::MAP {
         return next(short_len(&s[1..], out, ds - 1));
     }
-    if k == 0x0a {
+    if k == kind::UNION {
         if variants_short(s, out, ds) {
             return schema_len(s, ds);
         }
         return 0;
     }
-    if k == 0x0b {
+    if k == kind::RECORD {
         return fields_short(s, out, ds);
     }
     schema_len(s, ds)
@@ -125,10 +126,10 @@ fn start_short(s: &[u8], d: &[u8], out: &mut [u8], ds: usize) -> bool
     requires { ⌜ Ready ds (now s) × SoundRead defaultKinds (readValue 16 (now d)) ⌝ }
     ensures { λ r. ⌜ r ≡ shortStart (onBoth startDefault (readSchema ds (now (s .entry))) (readValue 16 (now (d .entry)))) ⌝ }
 {
-    if s[0] != 0x0a {
+    if s[0] != kind::UNION {
         return true;
     }
-    if s[3] == 0x00 {
+    if s[3] == kind::NULL {
         return true;
     }
     let first = Walk {

@@ -1,6 +1,7 @@
 // A schema that has no child: its own resolve_ function, by the kind byte. What that function needs of the schema, a size
 // or a precision, is read from the part behind the kind byte.
 use buffer::Answer;
+use frame::kind;
 ghost use mathlib.Core.Path.{_≡_};
 ghost use lib.ListN.{getD};
 ghost use Rattle.text.specs.Measured.{Reads};
@@ -52,25 +53,25 @@ pub fn resolve_leaf(s: &[u8], v: &[u8], out: &mut [u8], ds: usize, dv: usize) ->
     ensures { λ r. ⌜ Wrote (onBoth peeledBytes (readSchema ds (now (s .entry))) (readValue dv (now (v .entry)))) (now (out .exit)) r ⌝ }
 {
     let k = s[0];
-    if k == 6 {
+    if k == kind::BYTES {
         return bytewise::resolve_bytes(v, out, dv);
     }
-    if k == 7 {
+    if k == kind::STRING {
         return octets::resolve_string(v, out, dv);
     }
-    if k == 0x0c {
+    if k == kind::ENUM {
         return symbols::resolve_enum(s, ds, v, out, dv);
     }
-    if k == 0x0d {
+    if k == kind::FIXED {
         return leaf_fixed(s, v, out, ds, dv);
     }
-    if k == 0x0e {
+    if k == kind::DECIMAL {
         return leaf_decimal(s, v, out, ds, dv);
     }
-    if k == 0x0f {
+    if k == kind::UUID {
         return leaf_uuid(s, v, out, ds, dv);
     }
-    if k == 0x19 {
+    if k == kind::DURATION {
         return octets::resolve_duration(v, out, dv);
     }
     casts::resolve_plain(v, out, dv, k)

@@ -1,7 +1,9 @@
 // The `resolve_` functions of src/types.rs for a String, a Fixed, a Decimal, a Uuid and a Duration: each takes a part that holds a value and
 // writes the result into what is left of the result buffer.
+use base::refusal;
 use buffer::Answer;
 use duration::Duration;
+use frame::kind;
 ghost use mathlib.Core.Path.{_≡_};
 ghost use mathlib.Core.List.{List, _∷_, _++_};
 ghost use mathlib.Core.Bool.{true};
@@ -56,23 +58,23 @@ fn string_of(t: &[u8], out: &mut [u8]) -> Answer
     if utf8::is_utf8(t) {
         return Answer::Accepted(put_counted(out, 7, t));
     }
-    Answer::Refused(9)
+    Answer::Refused(refusal::NOT_UTF8)
 }
 
 pub fn resolve_string(v: &[u8], out: &mut [u8], depth: usize) -> Answer
     requires { ⌜ Reads (readValue depth (now v)) ⌝ }
     ensures { λ r. ⌜ Wrote (onRead (λ w. encoded (resolve-string w)) (readValue depth (now (v .entry)))) (now (out .exit)) r ⌝ }
 {
-    if v[0] == 7 {
+    if v[0] == kind::STRING {
         return Answer::Accepted(put_counted(out, 7, content(v)));
     }
-    if v[0] == 6 {
+    if v[0] == kind::BYTES {
         return string_of(content(v), out);
     }
-    if v[0] == 13 {
+    if v[0] == kind::FIXED {
         return string_of(content(v), out);
     }
-    Answer::Refused(6)
+    Answer::Refused(refusal::UNSUITED)
 }
 
 fn fixed_of(size: usize, t: &[u8], out: &mut [u8]) -> Answer
@@ -82,7 +84,7 @@ fn fixed_of(size: usize, t: &[u8], out: &mut [u8]) -> Answer
     if t.len() == size {
         return Answer::Accepted(put_counted(out, 13, t));
     }
-    Answer::Refused(10)
+    Answer::Refused(refusal::SIZE_DIFFERS)
 }
 
 // A String's length is not looked at.
@@ -90,16 +92,16 @@ pub fn resolve_fixed(size: usize, v: &[u8], out: &mut [u8], depth: usize) -> Ans
     requires { ⌜ Reads (readValue depth (now v)) ⌝ }
     ensures { λ r. ⌜ Wrote (onRead (λ w. encoded (resolve-fixed size w)) (readValue depth (now (v .entry)))) (now (out .exit)) r ⌝ }
 {
-    if v[0] == 7 {
+    if v[0] == kind::STRING {
         return Answer::Accepted(put_counted(out, 13, content(v)));
     }
-    if v[0] == 13 {
+    if v[0] == kind::FIXED {
         return fixed_of(size, content(v), out);
     }
-    if v[0] == 6 {
+    if v[0] == kind::BYTES {
         return fixed_of(size, content(v), out);
     }
-    Answer::Refused(6)
+    Answer::Refused(refusal::UNSUITED)
 }
 
 // 16 bytes are a UUID; any other length is refusal n.
@@ -120,7 +122,7 @@ fn uuid_text(t: &[u8], out: &mut [u8]) -> Answer
         let b = p.bytes;
         return Answer::Accepted(put_plain(out, 15, &b));
     }
-    Answer::Refused(11)
+    Answer::Refused(refusal::UUID_WRONG)
 }
 
 // resolve_uuid for a Uuid on bytes.
@@ -128,13 +130,13 @@ pub fn resolve_uuid_bytes(v: &[u8], out: &mut [u8], depth: usize) -> Answer
     requires { ⌜ Reads (readValue depth (now v)) ⌝ }
     ensures { λ r. ⌜ Wrote (onRead (λ w. encoded (resolve-uuid UuidForm.bytes w)) (readValue depth (now (v .entry)))) (now (out .exit)) r ⌝ }
 {
-    if v[0] == 15 {
+    if v[0] == kind::UUID {
         return Answer::Accepted(put_plain(out, 15, &v[1..17]));
     }
-    if v[0] == 6 {
+    if v[0] == kind::BYTES {
         return uuid_of(11, content(v), out);
     }
-    Answer::Refused(6)
+    Answer::Refused(refusal::UNSUITED)
 }
 
 // resolve_uuid for a Uuid on a string.
@@ -142,13 +144,13 @@ pub fn resolve_uuid_string(v: &[u8], out: &mut [u8], depth: usize) -> Answer
     requires { ⌜ Reads (readValue depth (now v)) ⌝ }
     ensures { λ r. ⌜ Wrote (onRead (λ w. encoded (resolve-uuid UuidForm.string w)) (readValue depth (now (v .entry)))) (now (out .exit)) r ⌝ }
 {
-    if v[0] == 15 {
+    if v[0] == kind::UUID {
         return Answer::Accepted(put_plain(out, 15, &v[1..17]));
     }
-    if v[0] == 7 {
+    if v[0] == kind::STRING {
         return uuid_text(content(v), out);
     }
-    Answer::Refused(6)
+    Answer::Refused(refusal::UNSUITED)
 }
 
 // resolve_uuid for a Uuid on a fixed, whose size is not looked at.
@@ -156,16 +158,16 @@ pub fn resolve_uuid_fixed(size: usize, v: &[u8], out: &mut [u8], depth: usize) -
     requires { ⌜ Reads (readValue depth (now v)) ⌝ }
     ensures { λ r. ⌜ Wrote (onRead (λ w. encoded (resolve-uuid (UuidForm.fixed size) w)) (readValue depth (now (v .entry)))) (now (out .exit)) r ⌝ }
 {
-    if v[0] == 15 {
+    if v[0] == kind::UUID {
         return Answer::Accepted(put_plain(out, 15, &v[1..17]));
     }
-    if v[0] == 13 {
+    if v[0] == kind::FIXED {
         return uuid_of(10, content(v), out);
     }
-    if v[0] == 7 {
+    if v[0] == kind::STRING {
         return uuid_of(10, content(v), out);
     }
-    Answer::Refused(6)
+    Answer::Refused(refusal::UNSUITED)
 }
 
 // 12 bytes as a Duration: its months, days and milliseconds are taken, and written.
@@ -185,20 +187,20 @@ fn duration_of(t: &[u8], out: &mut [u8]) -> Answer
     if t.len() == 12 {
         return Answer::Accepted(put_duration(t, out));
     }
-    Answer::Refused(10)
+    Answer::Refused(refusal::SIZE_DIFFERS)
 }
 
 pub fn resolve_duration(v: &[u8], out: &mut [u8], depth: usize) -> Answer
     requires { ⌜ Reads (readValue depth (now v)) ⌝ }
     ensures { λ r. ⌜ Wrote (onRead (λ w. encoded (resolve-duration w)) (readValue depth (now (v .entry)))) (now (out .exit)) r ⌝ }
 {
-    if v[0] == 25 {
+    if v[0] == kind::DURATION {
         return Answer::Accepted(put_duration(&v[1..13], out));
     }
-    if v[0] == 13 {
+    if v[0] == kind::FIXED {
         return duration_of(content(v), out);
     }
-    Answer::Refused(6)
+    Answer::Refused(refusal::UNSUITED)
 }
 
 fn fixed_too_short(precision: u32, sized: bool, size: usize) -> bool
@@ -215,7 +217,7 @@ fn decimal_of(precision: u32, t: &[u8], out: &mut [u8]) -> Answer
     ensures { λ r. ⌜ Wrote (encoded (decimalOfBytes precision (now (t .entry)))) (now (out .exit)) r ⌝ }
 {
     if decimal::too_short_for(precision, t.len()) {
-        return Answer::Refused(14);
+        return Answer::Refused(refusal::BYTES_TOO_FEW);
     }
     Answer::Accepted(put_counted(out, 14, t))
 }
@@ -254,7 +256,7 @@ fn decimal_text(t: &[u8], out: &mut [u8]) -> Answer
             let at = buffer::put(out, &h);
             Answer::Accepted(append_points(t, n, out, at))
         }
-        utf8::Points::Above => Answer::Refused(6),
+        utf8::Points::Above => Answer::Refused(refusal::UNSUITED),
     }
 }
 
@@ -271,22 +273,22 @@ pub fn resolve_decimal(
     ensures { λ r. ⌜ Wrote (onRead (λ w. encoded (resolve-decimal precision scale (if sized then some size else none) w)) (readValue depth (now (v .entry)))) (now (out .exit)) r ⌝ }
 {
     if precision < scale {
-        return Answer::Refused(12);
+        return Answer::Refused(refusal::SCALE_EXCEEDS_PRECISION);
     }
     if fixed_too_short(precision, sized, size) {
-        return Answer::Refused(13);
+        return Answer::Refused(refusal::FIXED_TOO_SMALL);
     }
-    if v[0] == 14 {
+    if v[0] == kind::DECIMAL {
         return decimal_of(precision, content(v), out);
     }
-    if v[0] == 13 {
+    if v[0] == kind::FIXED {
         return decimal_of(precision, content(v), out);
     }
-    if v[0] == 6 {
+    if v[0] == kind::BYTES {
         return decimal_of(precision, content(v), out);
     }
-    if v[0] == 7 {
+    if v[0] == kind::STRING {
         return decimal_text(content(v), out);
     }
-    Answer::Refused(6)
+    Answer::Refused(refusal::UNSUITED)
 }

@@ -1,5 +1,7 @@
 // resolve_enum of src/types.rs: the place of a symbol among the schema's.
+use base::refusal;
 use buffer::Answer;
+use frame::kind;
 use frame::texts_len;
 use octets::content;
 ghost use mathlib.Core.Path.{_≡_};
@@ -87,13 +89,13 @@ fn enum_default(s: &[u8], out: &mut [u8]) -> Answer
 {
     let at = texts_len(s);
     if s[at] == 0 {
-        return Answer::Refused(15);
+        return Answer::Refused(refusal::SYMBOL_UNKNOWN);
     }
     let from = at + 1;
     let d = text::content(&s[from..]);
     match position(s, d) {
         Place::At(i) => Answer::Accepted(put_enum(out, i, d)),
-        Place::Nowhere => Answer::Refused(15),
+        Place::Nowhere => Answer::Refused(refusal::SYMBOL_UNKNOWN),
     }
 }
 
@@ -113,11 +115,11 @@ pub fn resolve_enum(s: &[u8], ds: usize, v: &[u8], out: &mut [u8], depth: usize)
     requires { ⌜ Reads (readSchema ds (now s)) × (getD (now s) 0 0 ≡ Kind.Enum) × Reads (readValue depth (now v)) ⌝ }
     ensures { λ r. ⌜ Wrote (onBoth (λ t w. encoded (resolveEnumAt t w)) (readSchema ds (now (s .entry))) (readValue depth (now (v .entry)))) (now (out .exit)) r ⌝ }
 {
-    if v[0] == 12 {
+    if v[0] == kind::ENUM {
         return enum_of(&s[1..], text::content(&v[5..]), out);
     }
-    if v[0] == 7 {
+    if v[0] == kind::STRING {
         return enum_of(&s[1..], content(v), out);
     }
-    Answer::Refused(6)
+    Answer::Refused(refusal::UNSUITED)
 }

@@ -1,6 +1,7 @@
 // The ways into a union schema: its variants, its two tables, and the kinds that lead to them (src/schema/union.rs).
 use buffer::joined;
 use find::Found;
+use frame::kind;
 use schema::schema_len;
 ghost use mathlib.Core.Path.{_≡_};
 ghost use mathlib.Core.List.{List, _∷_, _++_};
@@ -31,20 +32,20 @@ pub struct Positions {
 pub fn named_kind(k: u8) -> Wanted
     ensures { λ r. ⌜ wantedOf r ≡ namedKind k ⌝ }
 {
-    if k == 0x09 {
-        return Wanted::Kind(0x0b);
+    if k == kind::MAP {
+        return Wanted::Kind(kind::RECORD);
     }
-    if k < 0x0b {
+    if k < kind::RECORD {
         return Wanted::Any;
     }
-    if k < 0x0e {
+    if k < kind::DECIMAL {
         return Wanted::Kind(k);
     }
-    if k < 0x10 {
-        return Wanted::Kind(0x0d);
+    if k < kind::DATE {
+        return Wanted::Kind(kind::FIXED);
     }
-    if k == 0x19 {
-        return Wanted::Kind(0x0d);
+    if k == kind::DURATION {
+        return Wanted::Kind(kind::FIXED);
     }
     Wanted::Any
 }
@@ -53,25 +54,25 @@ pub fn named_kind(k: u8) -> Wanted
 pub fn unnamed_kind(k: u8) -> Wanted
     ensures { λ r. ⌜ wantedOf r ≡ unnamedKind k ⌝ }
 {
-    if k < 0x0b {
+    if k < kind::RECORD {
         return Wanted::Kind(k);
     }
-    if k < 0x0e {
+    if k < kind::DECIMAL {
         return Wanted::Any;
     }
-    if k == 0x0e {
-        return Wanted::Kind(0x06);
+    if k == kind::DECIMAL {
+        return Wanted::Kind(kind::BYTES);
     }
-    if k == 0x0f {
-        return Wanted::Kind(0x07);
+    if k == kind::UUID {
+        return Wanted::Kind(kind::STRING);
     }
-    if k < 0x12 {
-        return Wanted::Kind(0x02);
+    if k < kind::TIME_MICROS {
+        return Wanted::Kind(kind::INT);
     }
-    if k < 0x19 {
-        return Wanted::Kind(0x03);
+    if k < kind::DURATION {
+        return Wanted::Kind(kind::LONG);
     }
-    if k == 0x19 {
+    if k == kind::DURATION {
         return Wanted::Any;
     }
     Wanted::Kind(k)
@@ -83,31 +84,31 @@ pub fn base_kind(s: &[u8], depth: usize) -> u8
     ensures { λ r. ⌜ r ≡ baseRead (readSchema depth (now (s .entry))) ⌝ }
 {
     let k = s[0];
-    if k < 0x0e {
+    if k < kind::DECIMAL {
         return k;
     }
-    if k == 0x0e {
+    if k == kind::DECIMAL {
         if s[9] == 0x00 {
-            return 0x06;
+            return kind::BYTES;
         }
-        return 0x0d;
+        return kind::FIXED;
     }
-    if k == 0x0f {
+    if k == kind::UUID {
         if s[1] == 0x00 {
-            return 0x06;
+            return kind::BYTES;
         }
         if s[1] == 0x01 {
-            return 0x07;
+            return kind::STRING;
         }
-        return 0x0d;
+        return kind::FIXED;
     }
-    if k < 0x12 {
-        return 0x02;
+    if k < kind::TIME_MICROS {
+        return kind::INT;
     }
-    if k < 0x19 {
-        return 0x03;
+    if k < kind::DURATION {
+        return kind::LONG;
     }
-    0x0d
+    kind::FIXED
 }
 
 // Where a union's variant i stands; behind the last of them, where its kind table does.
@@ -202,11 +203,11 @@ pub fn is_tried(s: &[u8], depth: usize) -> bool
     requires { ⌜ Reads (readSchema depth (now s)) ⌝ }
     ensures { λ r. ⌜ OnRead (λ t. r ≡ mustBeTried (schemaKind t)) (readSchema depth (now (s .entry))) ⌝ }
 {
-    let kind = s[0];
-    if kind == 0x09 {
+    let k = s[0];
+    if k == kind::MAP {
         return true;
     }
-    kind == 0x08
+    k == kind::ARRAY
 }
 
 // Writes the kind and the index of a Union before what stands from the sixth byte on, m bytes.
@@ -218,7 +219,7 @@ pub fn put_index(out: &mut [u8], i: usize, m: usize) -> usize
     if out.len() < 5 {
         return n;
     }
-    out[0] = 0x0a;
+    out[0] = kind::UNION;
     number::put4(out, 1, i as u32);
     n
 }

@@ -1,6 +1,7 @@
 // Resolution of a value against a schema (src/types.rs, src/schema/union.rs) over parts of frames: node, record and union
 // resolution, which call one another with a falling schema depth. Each function writes its result into the slice that it is
 // lent, as far as it fits, and answers the result's whole length or the refusal.
+use base::refusal;
 use buffer::Answer;
 use buffer::joined;
 use buffer::put;
@@ -11,6 +12,7 @@ use find::Found;
 use find::find_in;
 use find::mark;
 use find::peel;
+use frame::kind;
 use leaf::resolve_leaf;
 use turns::Due;
 use turns::Spot;
@@ -60,16 +62,16 @@ pub fn resolve_node(w: Walk, s: &[u8], v: &[u8], out: &mut [u8]) -> Answer
         value: p.depth,
     };
     let k = s[0];
-    if k == 0x08 {
+    if k == kind::ARRAY {
         return resolve_array(inner, s, &v[at..], out);
     }
-    if k == 0x09 {
+    if k == kind::MAP {
         return resolve_map(inner, s, &v[at..], out);
     }
-    if k == 0x0a {
+    if k == kind::UNION {
         return resolve_union(inner, s, &v[at..], out);
     }
-    if k == 0x0b {
+    if k == kind::RECORD {
         return resolve_record(inner, s, &v[at..], out);
     }
     resolve_leaf(s, &v[at..], out, inner.schema, inner.value)
@@ -79,8 +81,8 @@ fn resolve_array(w: Walk, s: &[u8], v: &[u8], out: &mut [u8]) -> Answer
     requires { ⌜ NodeOf 8 w (now s) (now v) ⌝ }
     ensures { λ r. ⌜ Wrote (onBoth peeledBytes (readSchema (w .schema) (now (s .entry))) (readValue (w .value) (now (v .entry)))) (now (out .exit)) r ⌝ }
 {
-    if v[0] != 0x08 {
-        return Answer::Refused(6);
+    if v[0] != kind::ARRAY {
+        return Answer::Refused(refusal::UNSUITED);
     }
     let below = Walk {
         schema: w.schema - 1,
@@ -109,8 +111,8 @@ fn resolve_map(w: Walk, s: &[u8], v: &[u8], out: &mut [u8]) -> Answer
     requires { ⌜ NodeOf 9 w (now s) (now v) ⌝ }
     ensures { λ r. ⌜ Wrote (onBoth peeledBytes (readSchema (w .schema) (now (s .entry))) (readValue (w .value) (now (v .entry)))) (now (out .exit)) r ⌝ }
 {
-    if v[0] != 0x09 {
-        return Answer::Refused(6);
+    if v[0] != kind::MAP {
+        return Answer::Refused(refusal::UNSUITED);
     }
     let below = Walk {
         schema: w.schema - 1,
@@ -153,13 +155,13 @@ fn resolve_record(w: Walk, s: &[u8], v: &[u8], out: &mut [u8]) -> Answer
     requires { ⌜ NodeOf 11 w (now s) (now v) ⌝ }
     ensures { λ r. ⌜ Wrote (onBoth peeledBytes (readSchema (w .schema) (now (s .entry))) (readValue (w .value) (now (v .entry)))) (now (out .exit)) r ⌝ }
 {
-    if v[0] == 0x0b {
+    if v[0] == kind::RECORD {
         return keyed(w, s, v, out);
     }
-    if v[0] == 0x09 {
+    if v[0] == kind::MAP {
         return keyed(w, s, v, out);
     }
-    Answer::Refused(6)
+    Answer::Refused(refusal::UNSUITED)
 }
 
 // A Record or a Map against a record schema. Where it has many entries, their names are marked, to be found at once.
@@ -228,7 +230,7 @@ fn one_field(w: Walk, s: &[u8], v: &[u8], out: &mut [u8], names: &[u16], marked:
         }
         Found::Nothing => {
             if !f.default {
-                return Answer::Refused(17);
+                return Answer::Refused(refusal::FIELD_MISSING);
             }
             let d = f.default_at;
             match default(w, &s[schema..], &s[d..], &mut out[o..]) {
@@ -248,10 +250,10 @@ fn default(w: Walk, s: &[u8], d: &[u8], out: &mut [u8]) -> Answer
         schema: w.schema,
         value: 16,
     };
-    if s[0] != 0x0a {
+    if s[0] != kind::UNION {
         return resolve_node(whole, s, d, out);
     }
-    if s[3] == 0x00 {
+    if s[3] == kind::NULL {
         let null = [0u8; 1];
         let plain = Walk {
             schema: w.schema,
@@ -312,7 +314,7 @@ fn take_turn(w: Walk, s: &[u8], v: &[u8], out: &mut [u8], way: Way, turn: Turn, 
     ensures { λ r. ⌜ Steps w (now (s .entry)) (now (v .entry)) way turn (now (out .exit)) r ⌝ }
 {
     match due_of(s, w.schema, way, turn, spot) {
-        Due::Over => Step::Refused(16),
+        Due::Over => Step::Refused(refusal::NO_VARIANT),
         Due::Not(i, at) => Step::Passed(i, at),
         Due::At(i, at) => {
             let inner = Walk {
