@@ -15,7 +15,8 @@ use Rattle.frame.specs.Kind
 use Rattle.frame.specs.Tree.{Value, Schema, UuidForm, kindOf, is, octets, index, items, entries, peel, schemaKind}
 use Rattle.frame.specs.Sound.{kindsSound}
 use Rattle.types.specs.Types.{Outcome, resolvePlain, resolve-null, resolve-boolean, resolve-int, resolve-long, resolve-float, resolve-double, resolve-bytes, resolve-string, resolveIntTime, resolveLongTime, resolve-fixed, fixedTooShort, resolve-decimal, resolve-uuid, resolve-duration, resolve-enum, next-place}
-use Rattle.avro.specs.Union.{Trial, noTrial, unnamedKind, namedKind, lookupKind, tableLookup, mustBeTried, takeVariant, unnamedVariant, takes, namedVariant, firstThatResolves, choose, find-schema-with-known-schemata, inUnion, resolve-union}
+use Rattle.avro.specs.Union.{Trial, noTrial, unnamedKind, namedKind, lookupKind, tableLookup, mustBeTried, takeVariant, unnamedVariant, takes, namedVariant, firstThatResolves, choose, find-schema-with-known-schemata, inUnion, resolve-union, positionOf}
+use Rattle.avro.proofs.UnionLaws.{chosen-trial, chosen-both}
 use Rattle.avro.specs.Resolve.{resolve, trials, resolve-array, resolve-map, resolve-record}
 use Rattle.avro.specs.Matches.{allItems, allEntries, symbolAt, fits, fieldsFit, variantFits}
 use Rattle.avro.specs.Pairs.{nullablePair, isNull, onlyNullLeadsTo}
@@ -158,12 +159,12 @@ take-found P ts (some i) p = go (mustBeTried (getD ts i noTrial .kind) && not (a
     go false = p
 
 -- where every search that finds something finds q
-choose-is : (ts : List Trial) (u n : Option ℕ) (q : ℕ) → Found (λ i. i ≡ q) u → Found (λ i. i ≡ q) n → firstThatResolves ts ≡ some q → choose ts u n ≡ some q
-unfolding choose
-choose-is ts none none q p r f = f
+choose-is : (ts : List Trial) (u n : Option ℕ) (q : ℕ) → Found (λ i. i ≡ q) u → Found (λ i. i ≡ q) n → firstThatResolves ts ≡ some q → positionOf (choose ts u n) ≡ some q
+unfolding choose positionOf
+choose-is ts none none q p r f = chosen-trial ts ∙ f
 choose-is ts none (some n) q p r f = ap {B = Option ℕ} some r
 choose-is ts (some u) none q p r f = ap {B = Option ℕ} some p
-choose-is ts (some u) (some n) q p r f = go (ltb u n)
+choose-is ts (some u) (some n) q p r f = chosen-both ts u n ∙ go (ltb u n)
   where
     go : (b : Bool) → (if b then some u else some n) ≡ some q
     go true = ap {B = Option ℕ} some p

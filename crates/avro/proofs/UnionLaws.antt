@@ -5,12 +5,12 @@ use mathlib.Core.List.{List, [], _∷_}
 use mathlib.Core.Option.{Option, none, some}
 use mathlib.Core.Bool.{Bool, true, false, _&&_, not}
 use native.Mathlib.Omega.{arith}
-use lib.Dec.{eqb}
+use lib.Dec.{eqb, ltb}
 use lib.ListN.{length, getD}
 use borrow.Author.Tests.{eq-eqb, ne-eqb, eqb-true}
 use Rattle.base.specs.Base.{if_then_else_, accepted}
 use Rattle.types.specs.Types.{next-place}
-use Rattle.avro.specs.Union.{Trial, noTrial, mustBeTried, takeVariant, takes, namedVariant, firstThatResolves}
+use Rattle.avro.specs.Union.{Trial, noTrial, mustBeTried, takeVariant, takes, namedVariant, firstThatResolves, byTable, byName, byTrials, choose, positionOf}
 
 pub none-some : {A B : Type 0} (x : Option A) (b : A) → x ≡ none → x ≡ some b → B
 none-some x b e f = let z : _≡_ {A = ℕ} 0 1 = cc in absurd (omega arith)
@@ -161,3 +161,21 @@ named-is ts (n ∷ ns) k i e = go (takes k ts n) refl (λ f. named-is ts ns k i 
     go false p rest =
         let r = rest (sym (named-if ts n ns k ∙ ap (λ b. if b then some n else namedVariant ts ns (some k)) p) ∙ e) in
         (suc (r .0), (omega (arith, r .1 .0), (r .1 .1 .0, (r .1 .1 .1 .0, before p (r .0) (r .1 .1 .1 .1)))))
+
+-- ---- the position that is chosen
+
+pub chosen-trial : (ts : List Trial) → positionOf (choose ts none none) ≡ firstThatResolves ts
+unfolding choose positionOf byTrials
+chosen-trial ts = go (firstThatResolves ts)
+  where
+    go : (o : Option ℕ) → positionOf (byTrials o) ≡ o
+    go none = refl
+    go (some i) = refl
+
+pub chosen-both : (ts : List Trial) (u n : ℕ) → positionOf (choose ts (some u) (some n)) ≡ (if ltb u n then some u else some n)
+unfolding choose positionOf
+chosen-both ts u n = go (ltb u n)
+  where
+    go : (b : Bool) → positionOf (if b then byTable u else byName n) ≡ (if b then some u else some n)
+    go true = refl
+    go false = refl

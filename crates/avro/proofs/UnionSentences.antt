@@ -13,9 +13,9 @@ use borrow.Author.Tests.{eq-eqb, ne-eqb, lt-ltb, le-ltb, eqb-true}
 use Rattle.base.specs.Base.{if_then_else_, ok, stop, after, accepted}
 use Rattle.frame.specs.Kind
 use Rattle.frame.specs.Tree.{Value, Schema, UuidForm, Fields, Variants, variant, kindOf, peel, schemaKind, schema-to-base-schemakind}
-use Rattle.avro.specs.Union.{Trial, noTrial, unnamedKind, namedKind, lookupKind, tableLookup, mustBeTried, takeVariant, unnamedVariant, takes, namedVariant, firstThatResolves, choose, find-schema-with-known-schemata, inUnion, resolve-union}
+use Rattle.avro.specs.Union.{Trial, noTrial, unnamedKind, namedKind, lookupKind, tableLookup, mustBeTried, takeVariant, unnamedVariant, takes, namedVariant, firstThatResolves, choose, find-schema-with-known-schemata, inUnion, resolve-union, positionOf}
 use Rattle.avro.specs.Resolve.{resolve, trials}
-use Rattle.avro.proofs.UnionLaws.{none-some, take-accepted, take-untried, take-refused, first-none, first-at, first-is, first-missed, takes-by, takes-is, named-none, named-at, named-is, named-missed}
+use Rattle.avro.proofs.UnionLaws.{none-some, take-accepted, take-untried, take-refused, first-none, first-at, first-is, first-missed, takes-by, takes-is, named-none, named-at, named-is, named-missed, chosen-trial, chosen-both}
 
 -- the variant i resolves, or does not
 abbrev pub Resolves : List Trial → ℕ → Type 0
@@ -184,34 +184,34 @@ module _ (vs : Variants) (ks : List (ℕ × ℕ)) (ns : List ℕ) (v : Value) wh
   abbrev pub GoesTo : ℕ → Type 0
   GoesTo i = resolve (Schema.Union vs ks ns) v ≡ after (getD tried-all i noTrial .outcome) (λ r. ok (Value.Union i r))
 
-  chosen : (x y : Option ℕ) → by-table ≡ x → by-name ≡ y → resolve (Schema.Union vs ks ns) v ≡ inUnion tried-all (choose tried-all x y)
+  chosen : (x y : Option ℕ) → by-table ≡ x → by-name ≡ y → resolve (Schema.Union vs ks ns) v ≡ inUnion tried-all (positionOf (choose tried-all x y))
   unfolding resolve resolve-union find-schema-with-known-schemata unnamedVariant
-  chosen x y e f = ap (λ z. inUnion tried-all (choose tried-all z by-name)) e ∙ ap (λ z. inUnion tried-all (choose tried-all x z)) f
+  chosen x y e f = ap (λ z. inUnion tried-all (positionOf (choose tried-all z by-name))) e ∙ ap (λ z. inUnion tried-all (positionOf (choose tried-all x z))) f
 
   pub smaller-table : (u n : ℕ) → by-table ≡ some u → by-name ≡ some n → u < n → GoesTo u
-  unfolding choose inUnion
-  smaller-table u n e f h = chosen (some u) (some n) e f ∙ ap (λ b. inUnion tried-all (if b then some u else some n)) (lt-ltb u n h)
+  unfolding choose positionOf inUnion
+  smaller-table u n e f h = chosen (some u) (some n) e f ∙ ap (inUnion tried-all) (chosen-both tried-all u n) ∙ ap (λ b. inUnion tried-all (if b then some u else some n)) (lt-ltb u n h)
 
   pub smaller-named : (u n : ℕ) → by-table ≡ some u → by-name ≡ some n → n ≤ u → GoesTo n
-  unfolding choose inUnion
-  smaller-named u n e f h = chosen (some u) (some n) e f ∙ ap (λ b. inUnion tried-all (if b then some u else some n)) (le-ltb u n h)
+  unfolding choose positionOf inUnion
+  smaller-named u n e f h = chosen (some u) (some n) e f ∙ ap (inUnion tried-all) (chosen-both tried-all u n) ∙ ap (λ b. inUnion tried-all (if b then some u else some n)) (le-ltb u n h)
 
   pub only-table : (u : ℕ) → by-table ≡ some u → by-name ≡ none → GoesTo u
-  unfolding choose inUnion
+  unfolding choose positionOf inUnion
   only-table u e f = chosen (some u) none e f
 
   pub only-named : (n : ℕ) → by-table ≡ none → by-name ≡ some n → GoesTo n
-  unfolding choose inUnion
+  unfolding choose positionOf inUnion
   only-named n e f = chosen none (some n) e f
 
   pub neither-first : (i : ℕ) → by-table ≡ none → by-name ≡ none → FirstThat tried-all i → GoesTo i
-  unfolding choose inUnion
-  neither-first i e f h = chosen none none e f ∙ ap (inUnion tried-all) (first-resolves tried-all i h)
+  unfolding choose positionOf inUnion
+  neither-first i e f h = chosen none none e f ∙ ap (inUnion tried-all) (chosen-trial tried-all ∙ first-resolves tried-all i h)
 
   -- 16: no variant accepts
   pub neither-sixteen : by-table ≡ none → by-name ≡ none → ((j : ℕ) → j < length tried-all → Fails tried-all j) → resolve (Schema.Union vs ks ns) v ≡ stop 16
-  unfolding choose inUnion
-  neither-sixteen e f h = chosen none none e f ∙ ap (inUnion tried-all) (none-resolves tried-all h)
+  unfolding choose positionOf inUnion
+  neither-sixteen e f h = chosen none none e f ∙ ap (inUnion tried-all) (chosen-trial tried-all ∙ none-resolves tried-all h)
 
 -- ---- the kinds that lead to a variant (value_to_base_schemakind): the kind itself, or the types that Avro lets a logical type annotate
 

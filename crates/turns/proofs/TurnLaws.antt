@@ -12,8 +12,8 @@ use lib.ListN.{length, getD}
 use borrow.Author.Tests.{lt-ltb, ltb-true, ltb-false}
 use Rattle.base.specs.Base.{if_then_else_, accepted}
 use Rattle.frame.specs.Tree.{Value}
-use Rattle.avro.specs.Union.{Trial, noTrial, choose, find-schema-with-known-schemata, mustBeTried, namedKind, namedVariant, tableLookup, takeVariant, takes, unnamedKind, unnamedVariant}
-use Rattle.avro.proofs.UnionLaws.{none-some, take-accepted, take-untried, take-refused, first-none, first-at, named-none, named-at, named-any, named-is, takes-by, takes-other}
+use Rattle.avro.specs.Union.{Trial, noTrial, choose, find-schema-with-known-schemata, mustBeTried, namedKind, namedVariant, positionOf, tableLookup, takeVariant, takes, unnamedKind, unnamedVariant}
+use Rattle.avro.proofs.UnionLaws.{none-some, take-accepted, take-untried, take-refused, first-none, first-at, named-none, named-at, named-any, named-is, takes-by, takes-other, chosen-both, chosen-trial}
 use Rattle.find.specs.declared.Found.{Found}
 use Rattle.variants.specs.Ways.{baseAt, countOf, kindTable, namedTable, unionVariants, variantNth}
 use Rattle.turns.specs.declared.Turn.{Turn}
@@ -50,9 +50,9 @@ module _ {d : ℕ} {s : List ℕ} {way : Way} (g : Goes d s way) (w : Value) whe
       none-of : (namedKind (g .kind) ≡ none) × (g .named ≡ []) → namedVariant (trialsFor g w) (namedTable (treeOf g)) (namedKind (g .kind)) ≡ namedVariant (trialsFor g w) (g .named) (some (way .kind))
       none-of e = ap (namedVariant (trialsFor g w) (namedTable (treeOf g))) (e .0) ∙ named-any (trialsFor g w) (namedTable (treeOf g)) ∙ sym (ap (λ l. namedVariant (trialsFor g w) l (some (way .kind))) (e .1))
 
-  chosen-by : (x y : Option ℕ) → takeVariant (trialsFor g w) table ≡ x → namedVariant (trialsFor g w) (g .named) (some (way .kind)) ≡ y → chosenFor g w ≡ choose (trialsFor g w) x y
+  chosen-by : (x y : Option ℕ) → takeVariant (trialsFor g w) table ≡ x → namedVariant (trialsFor g w) (g .named) (some (way .kind)) ≡ y → chosenFor g w ≡ positionOf (choose (trialsFor g w) x y)
   unfolding chosenFor find-schema-with-known-schemata unnamedVariant table
-  chosen-by x y e f = ap (λ z. choose (trialsFor g w) z (namedVariant (trialsFor g w) (namedTable (treeOf g)) (namedKind (g .kind)))) e ∙ ap (choose (trialsFor g w) x) (wanted ∙ f)
+  chosen-by x y e f = ap (λ z. positionOf (choose (trialsFor g w) z (namedVariant (trialsFor g w) (namedTable (treeOf g)) (namedKind (g .kind))))) e ∙ ap (λ z. positionOf (choose (trialsFor g w) x z)) (wanted ∙ f)
 
   found-first : (j i : ℕ) → j < way .count → NoneTaken g w j → NamedIs g j i → resolves g w i ≡ true → namedVariant (trialsFor g w) (g .named) (some (way .kind)) ≡ some i
   unfolding NoneTaken NamedIs
@@ -174,7 +174,7 @@ module _ {d : ℕ} {s : List ℕ} {way : Way} (g : Goes d s way) (w : Value) whe
 
   -- behind the table's position no named one comes before it
   table-first : (u : ℕ) → NoneTaken g w (way .before) → way .table ≡ Found.At u → takeVariant (trialsFor g w) (some u) ≡ some u → chosenFor g w ≡ some u
-  unfolding choose NoneTaken Splits NotBelow
+  unfolding choose positionOf NoneTaken Splits NotBelow
   table-first u n e f = go (namedVariant (trialsFor g w) (g .named) (some (way .kind))) refl
     where
       later : (i : ℕ) → namedVariant (trialsFor g w) (g .named) (some (way .kind)) ≡ some i → u ≤ i
@@ -189,7 +189,7 @@ module _ {d : ℕ} {s : List ℕ} {way : Way} (g : Goes d s way) (w : Value) whe
 
       go : (y : Option ℕ) → namedVariant (trialsFor g w) (g .named) (some (way .kind)) ≡ y → chosenFor g w ≡ some u
       go none p = chosen-by (some u) none (table-taken u e (some u) f) p
-      go (some i) p = chosen-by (some u) (some i) (table-taken u e (some u) f) p ∙ pick (ltb u i) refl
+      go (some i) p = chosen-by (some u) (some i) (table-taken u e (some u) f) p ∙ chosen-both (trialsFor g w) u i ∙ pick (ltb u i) refl
         where
           pick : (b : Bool) → ltb u i ≡ b → (if b then some u else some i) ≡ some u
           pick true r = refl
@@ -197,7 +197,7 @@ module _ {d : ℕ} {s : List ℕ} {way : Way} (g : Goes d s way) (w : Value) whe
 
   -- a named position that is not behind the table's
   named-first : (i : ℕ) → namedVariant (trialsFor g w) (g .named) (some (way .kind)) ≡ some i → soonerThan (way .table) i ≡ Found.Nothing → chosenFor g w ≡ some i
-  unfolding choose soonerThan Untaken table
+  unfolding choose positionOf soonerThan Untaken table
   named-first i p h = go (way .table) refl h
     where
       go : (x : Found) → way .table ≡ x → soonerThan x i ≡ Found.Nothing → chosenFor g w ≡ some i
@@ -209,7 +209,7 @@ module _ {d : ℕ} {s : List ℕ} {way : Way} (g : Goes d s way) (w : Value) whe
           not-sooner true y = let z : _≡_ {A = ℕ} 0 1 = cc in absurd (omega arith)
 
           here : takeVariant (trialsFor g w) (some u) ≡ some u → chosenFor g w ≡ some i
-          here z = chosen-by (some u) (some i) (table-taken u e (some u) z) p ∙ ap (λ b. if b then some u else some i) (not-sooner (ltb u i) f)
+          here z = chosen-by (some u) (some i) (table-taken u e (some u) z) p ∙ chosen-both (trialsFor g w) u i ∙ ap (λ b. if b then some u else some i) (not-sooner (ltb u i) f)
 
           split : (a b : Bool) → mustBeTried (getD (trialsFor g w) u noTrial .kind) ≡ a → resolves g w u ≡ b → chosenFor g w ≡ some i
           split false b y z = here (take-untried (trialsFor g w) u y)
@@ -217,12 +217,13 @@ module _ {d : ℕ} {s : List ℕ} {way : Way} (g : Goes d s way) (w : Value) whe
           split true false y z = chosen-by none (some i) (table-taken u e none (take-refused (trialsFor g w) u y z)) p
 
   pub accepted-chosen : (turn : Turn) (i : ℕ) → i < countOf (treeOf g) → Known g w turn → Tries g turn i → resolves g w i ≡ true → tableBefore (way .table) i turn ≡ Found.Nothing → chosenFor g w ≡ some i
-  unfolding Known Tries tableBefore choose Untaken table
+  unfolding Known Tries tableBefore choose positionOf Untaken table
   accepted-chosen (Turn.Before j) i h k z e f = named-first i (found-first j i (omega (arith, z .0, before-count g)) (k .1) (z .1) e) f
   accepted-chosen Turn.Table i h k z e f = table-first i k z (take-accepted (trialsFor g w) i e)
   accepted-chosen (Turn.Behind j) i h k z e f = chosen-by none (some i) (k .1 .1 .1) (found-first j i (z .0) (k .1 .1 .0) (z .1) e)
   accepted-chosen (Turn.Any n) i h k z e f =
       chosen-by none none (k .1 .1 .0) (none-found (k .1 .0))
+      ∙ chosen-trial (trialsFor g w)
       ∙ first-at (trialsFor g w) i (omega (arith, count-is)) (λ m l. k .1 .1 .1 m (omega (arith, z))) e
 
   pub last-chosen : (turn : Turn) (i : ℕ) → Known g w turn → Tries g turn i → isLast turn (mustBeTried (getD (trialsFor g w) i noTrial .kind)) ≡ true → chosenFor g w ≡ some i
@@ -237,12 +238,12 @@ module _ {d : ℕ} {s : List ℕ} {way : Way} (g : Goes d s way) (w : Value) whe
   last-chosen (Turn.Any n) i k z f = let y : _≡_ {A = ℕ} 0 1 = cc in absurd (omega arith)
 
   pub none-chosen : (turn : Turn) → Known g w turn → Ends g turn → chosenFor g w ≡ none
-  unfolding Known Ends choose Untaken table
+  unfolding Known Ends choose positionOf Untaken table
   none-chosen (Turn.Before j) k z = absurd z
   none-chosen Turn.Table k z = absurd z
   none-chosen (Turn.Behind j) k z = absurd z
   none-chosen (Turn.Any i) k z =
-      chosen-by none none (k .1 .1 .0) (none-found (k .1 .0)) ∙ first-none (trialsFor g w) (λ m l. k .1 .1 .1 m (omega (arith, count-is)))
+      chosen-by none none (k .1 .1 .0) (none-found (k .1 .0)) ∙ chosen-trial (trialsFor g w) ∙ first-none (trialsFor g w) (λ m l. k .1 .1 .1 m (omega (arith, count-is)))
 
   -- ---- a named position behind the table's, whose variant resolves
 
@@ -265,8 +266,8 @@ module _ {d : ℕ} {s : List ℕ} {way : Way} (g : Goes d s way) (w : Value) whe
 
   module _ (u i : ℕ) (b : Beaten g w u i) where
     over-named : takeVariant (trialsFor g w) (some u) ≡ some u → chosenFor g w ≡ some u
-    unfolding choose
-    over-named e = chosen-by (some u) (some i) (table-taken u (b .table) (some u) e) (b .named) ∙ ap (λ x. if x then some u else some i) (lt-ltb u i (b .behind))
+    unfolding choose positionOf
+    over-named e = chosen-by (some u) (some i) (table-taken u (b .table) (some u) e) (b .named) ∙ chosen-both (trialsFor g w) u i ∙ ap (λ x. if x then some u else some i) (lt-ltb u i (b .behind))
 
     pub beaten-accepted : resolves g w u ≡ true → chosenFor g w ≡ some u
     beaten-accepted e = over-named (take-accepted (trialsFor g w) u e)
@@ -275,7 +276,7 @@ module _ {d : ℕ} {s : List ℕ} {way : Way} (g : Goes d s way) (w : Value) whe
     beaten-untried e = over-named (take-untried (trialsFor g w) u e)
 
     pub beaten-refused : mustBeTried (getD (trialsFor g w) u noTrial .kind) ≡ true → resolves g w u ≡ false → chosenFor g w ≡ some i
-    unfolding choose
+    unfolding choose positionOf
     beaten-refused e f = chosen-by none (some i) (table-taken u (b .table) none (take-refused (trialsFor g w) u e f)) (b .named)
 
     pub beaten-in : i < countOf (treeOf g)
