@@ -1,8 +1,8 @@
--- A schema that is read, written again, is the bytes that it was read from; and every number in it is in range.
+-- A schema that is read with its tables as they are written, written again, is the bytes that it was read from; and every number in it is in range.
 use Prim.Native.Nat.{ℕ, zero, suc, _≤_}
 use mathlib.Core.Path.{_≡_, refl, sym, ap, _∙_, subst}
 use mathlib.Core.List.{List, [], _∷_, _++_, append-assoc}
-use mathlib.Core.Option.{Option, none, some}
+use mathlib.Core.Option.{Option, some}
 use mathlib.Core.Bool.{Bool, true, false, not}
 use lib.Dec.{T, leb, ltb, eqb, leb→le, eqb→eq}
 use lib.ListN.{length}
@@ -14,14 +14,13 @@ use Rattle.number.specs.Number.{allBytes, bytesOf}
 use Rattle.text.specs.Text.{Text}
 use Rattle.text.specs.Read.{Read, readNumber, readText}
 use Rattle.frame.specs.Kind
-use Rattle.frame.specs.Tree.{Value, Schema}
+use Rattle.frame.specs.Tree.{Schema}
 use Rattle.frame.specs.Readers.{readFlag, readList, readOption}
 use Rattle.frame.specs.ValueFrame.{readValue, writeText, encodeValue}
-use Rattle.frame.specs.SchemaFrame.{Form, Under, asWritten, Tables, Field, fieldsOf, variantsOf, readField, readLead, readTables, readUuidForm, readSymbols, bare, readFormed, readSchemaContent, readSchemaUnder, readSchema, decodeSchema, writeOption, writeAll, writeList, writeLead, writeUuidForm, encodeSchema, encodeFields, encodeVariants}
+use Rattle.frame.specs.SchemaFrame.{Form, Tables, Field, fieldsOf, variantsOf, readField, readLead, readTables, readUuidForm, readSymbols, bare, readFormed, readSchemaContent, readSchemaUnder, readSchema, decodeSchema, writeOption, writeAll, writeList, writeLead, writeUuidForm, encodeSchema, encodeFields, encodeVariants}
 use Rattle.frame.proofs.SchemaNodes.{count-variants}
-use Rattle.frame.proofs.ReadHeld.{Each, Got, got-if, got-bind, number-got, text-got, list-got, option-got, value-got, symbols-got, tables-got, whole-got, count-fields}
+use Rattle.frame.proofs.ReadHeld.{Each, Got, got-if, got-bind, got-any, number-got, text-got, list-got, option-got, value-got, symbols-got, prepared-got, whole-got, count-fields}
 use Rattle.frame.proofs.ReadBack.{Exact, Any, Behind, exact-if, exact-bind, exact-then, number-exact, flag-exact, text-exact, list-exact, behind-bind, behind-exact, value-exact, whole-exact}
-use Rattle.frame.proofs.RoundTrip.{held}
 use Rattle.frame.proofs.SchemaRoundTrip.{apart₃, HeldSize, HeldForm, HeldNumbers, HeldFieldNumbers, HeldVariantNumbers}
 
 -- ---- the bytes that it was read from
@@ -155,7 +154,7 @@ unfolding variantsOf
 variant-numbers [] h = tt
 variant-numbers (s ∷ ss) h = (h .0, variant-numbers ss (h .1))
 
-module _ (form : Form) (node : List ℕ → Read Schema) (g : (s : List ℕ) → T (allBytes s) → Got HeldNumbers (node s)) where
+module _ (node : List ℕ → Read Schema) (g : (s : List ℕ) → T (allBytes s) → Got HeldNumbers (node s)) where
   read-field-numbers : (s : List ℕ) → T (allBytes s) → Got (λ f. HeldNumbers (f .2)) (readField node s)
   unfolding readField
   read-field-numbers s h =
@@ -163,14 +162,10 @@ module _ (form : Form) (node : List ℕ → Read Schema) (g : (s : List ℕ) →
       λ n r p q. got-bind _ _ (readOption (readValue 16) r) _ (option-got (λ _. Unit) (readValue 16) tt any-value r q)
       λ v t w u. got-bind _ _ (node t) _ (g t u) λ f x y z. (y, z)
     where
-      weaken : (m : Read Value) → Got (λ v. T (held v 16)) m → Got (λ _. Unit) m
-      weaken none k = tt
-      weaken (some x) k = (tt, k .1)
-
       any-value : (s : List ℕ) → T (allBytes s) → Got (λ _. Unit) (readValue 16 s)
-      any-value s h = weaken (readValue 16 s) (value-got 16 s h)
+      any-value s h = got-any _ (readValue 16 s) (value-got 16 s h)
 
-  content-numbers : (k : ℕ) (s : List ℕ) → T (allBytes s) → Got HeldNumbers (readFormed form node k s)
+  content-numbers : (k : ℕ) (s : List ℕ) → T (allBytes s) → Got HeldNumbers (readSchemaContent node k s)
   unfolding readFormed
   content-numbers k s h =
       got-if _ (bare k) _ _ (λ _. (tt, h))
@@ -178,7 +173,7 @@ module _ (form : Form) (node : List ℕ → Read Schema) (g : (s : List ℕ) →
       λ _. got-if _ (eqb k Kind.Map) _ _ (λ _. got-bind _ _ (node s) _ (g s h) λ i r p q. (p, q))
       λ _. got-if _ (eqb k Kind.Union) _ _
       (λ _. got-bind _ _ (readList node s) _ (list-got _ node g s h)
-      λ vs r p q. got-bind _ _ (readTables form vs r) _ (tables-got form vs (p .1) r q)
+      λ vs r p q. got-bind _ _ (readTables Form.prepared vs r) _ (prepared-got vs r q)
       λ ts t w u. ((w, variant-numbers vs (p .0)), u))
       λ _. got-if _ (eqb k Kind.Record) _ _
       (λ _. got-bind _ _ (readList (readField node) s) _ (list-got _ (readField node) read-field-numbers s h) λ fs r p q. (field-numbers fs (p .0), q))
@@ -192,11 +187,11 @@ module _ (form : Form) (node : List ℕ → Read Schema) (g : (s : List ℕ) →
       λ _. got-if _ (eqb k Kind.Uuid) _ _ (λ _. got-bind _ _ (readUuidForm s) _ (form-numbers s h) λ f r p q. (p, q))
       λ _. got-if _ (eqb k Kind.Duration) _ _ (λ _. got-bind _ _ (readNumber 2 s) _ (number-got 2 s h) λ n r p q. (p, q)) (λ _. tt)
 
-schema-numbers : (u : Under) (d : ℕ) (s : List ℕ) → T (allBytes s) → Got HeldNumbers (readSchemaUnder u d s)
+schema-numbers : (d : ℕ) (s : List ℕ) → T (allBytes s) → Got HeldNumbers (readSchema d s)
 unfolding readSchemaUnder allBytes
-schema-numbers u zero s h = tt
-schema-numbers u (suc d) [] h = tt
-schema-numbers u (suc d) (k ∷ s) h = content-numbers (u .form) (readSchemaUnder u d) (λ t b. schema-numbers u d t b) k s (and-r (ltb k 256) (allBytes s) h)
+schema-numbers zero s h = tt
+schema-numbers (suc d) [] h = tt
+schema-numbers (suc d) (k ∷ s) h = content-numbers (readSchema d) (λ t b. schema-numbers d t b) k s (and-r (ltb k 256) (allBytes s) h)
 
 -- ---- whole frames
 
@@ -208,4 +203,4 @@ module _ (s : List ℕ) (t : Schema) (h : T (allBytes s)) (e : decodeSchema s �
 
   pub numbers-held : HeldNumbers t
   unfolding decodeSchema
-  numbers-held = subst (λ (o : Option Schema). Found HeldNumbers o) e (whole-got HeldNumbers (readSchema 16) s (schema-numbers asWritten 16 s h))
+  numbers-held = subst (λ (o : Option Schema). Found HeldNumbers o) e (whole-got HeldNumbers (readSchema 16) s (schema-numbers 16 s h))
