@@ -7,7 +7,7 @@ use mathlib.Core.Bool.{Bool, true, false, _&&_, not}
 use native.Mathlib.Omega.{arith}
 use lib.Dec.{eqb, ltb}
 use lib.ListN.{length, getD}
-use borrow.Author.Tests.{eq-eqb, ne-eqb, eqb-true}
+use borrow.Author.Tests.{eq-eqb, ne-eqb, eqb-true, le-ltb}
 use Rattle.base.specs.Base.{if_then_else_, accepted}
 use Rattle.types.specs.Types.{next-place}
 use Rattle.avro.specs.Union.{Trial, noTrial, mustBeTried, takeVariant, takes, namedVariant, firstThatResolves, byTable, byName, byTrials, choose, positionOf}
@@ -179,3 +179,8 @@ chosen-both ts u n = go (ltb u n)
     go : (b : Bool) → positionOf (if b then byTable u else byName n) ≡ (if b then some u else some n)
     go true = refl
     go false = refl
+
+-- where table and names give one position, the names found it
+pub named-when-equal : (ts : List Trial) (n : ℕ) → choose ts (some n) (some n) ≡ byName n
+unfolding choose
+named-when-equal ts n = ap (λ b. if b then byTable n else byName n) (le-ltb n n (omega arith))
