@@ -25,7 +25,7 @@ use Rattle.frame.proofs.Reading.{read-what, read-rest, not-both, bind-inv, read
 use Rattle.frame.proofs.Counting.{First, many-first, many-none, many-length, list-some}
 use Rattle.frame.proofs.SchemaNodes.{schema-there, schema-opened, count-variants}
 use Rattle.schema_parts.proofs.Tables.{lead-short, lead-got}
-use Rattle.variants.specs.Ways.{unionVariants, kindTable, namedTable, OnRead, Ready, VariantAt, Numbers, countOf}
+use Rattle.variants.specs.Ways.{unionVariants, kindTable, namedTable, OnRead, Ready, VariantAt, Numbers, countOf, unionParts}
 
 -- ---- what was read
 
@@ -143,15 +143,15 @@ union-parts d s t r e k =
 
 module _ (d : ℕ) (s : List ℕ) (t : Schema) (p : Parts d s t) where
   pub parts-variants : unionVariants t ≡ frame.variantsOf (p .variants)
-  unfolding unionVariants
+  unfolding unionParts
   parts-variants = ap unionVariants (p .is)
 
   pub parts-kinds : kindTable t ≡ p .kinds
-  unfolding kindTable
+  unfolding unionParts
   parts-kinds = ap kindTable (p .is)
 
   pub parts-named : namedTable t ≡ p .named
-  unfolding namedTable
+  unfolding unionParts
   parts-named = ap namedTable (p .is)
 
   pub parts-length : length (p .variants) ≡ numberAt s 1 2

@@ -20,42 +20,27 @@ use Rattle.variants.specs.declared.Wanted.{Wanted}
 
 -- ---- a union's parts
 
--- the variants of a union schema, and none of any other
-unfoldable pub unionVariants : Schema → Variants
-unionVariants (Schema.Plain k) = Variants.noVariants
-unionVariants (Schema.Fixed n) = Variants.noVariants
-unionVariants (Schema.Decimal p s n) = Variants.noVariants
-unionVariants (Schema.Uuid f) = Variants.noVariants
-unionVariants (Schema.Duration n) = Variants.noVariants
-unionVariants (Schema.Enum ss d) = Variants.noVariants
-unionVariants (Schema.Array s) = Variants.noVariants
-unionVariants (Schema.Map s) = Variants.noVariants
-unionVariants (Schema.Record fs) = Variants.noVariants
-unionVariants (Schema.Union vs ks ns) = vs
+-- the variants of a union schema and its two tables, and none of any other schema
+unfoldable pub unionParts : Schema → Variants × List (ℕ × ℕ) × List ℕ
+unionParts (Schema.Plain k) = (Variants.noVariants, [], [])
+unionParts (Schema.Fixed n) = (Variants.noVariants, [], [])
+unionParts (Schema.Decimal p s n) = (Variants.noVariants, [], [])
+unionParts (Schema.Uuid f) = (Variants.noVariants, [], [])
+unionParts (Schema.Duration n) = (Variants.noVariants, [], [])
+unionParts (Schema.Enum ss d) = (Variants.noVariants, [], [])
+unionParts (Schema.Array s) = (Variants.noVariants, [], [])
+unionParts (Schema.Map s) = (Variants.noVariants, [], [])
+unionParts (Schema.Record fs) = (Variants.noVariants, [], [])
+unionParts (Schema.Union vs ks ns) = (vs, ks, ns)
 
-unfoldable pub kindTable : Schema → List (ℕ × ℕ)
-kindTable (Schema.Plain k) = []
-kindTable (Schema.Fixed n) = []
-kindTable (Schema.Decimal p s n) = []
-kindTable (Schema.Uuid f) = []
-kindTable (Schema.Duration n) = []
-kindTable (Schema.Enum ss d) = []
-kindTable (Schema.Array s) = []
-kindTable (Schema.Map s) = []
-kindTable (Schema.Record fs) = []
-kindTable (Schema.Union vs ks ns) = ks
+abbrev pub unionVariants : Schema → Variants
+unionVariants t = unionParts t .0
 
-unfoldable pub namedTable : Schema → List ℕ
-namedTable (Schema.Plain k) = []
-namedTable (Schema.Fixed n) = []
-namedTable (Schema.Decimal p s n) = []
-namedTable (Schema.Uuid f) = []
-namedTable (Schema.Duration n) = []
-namedTable (Schema.Enum ss d) = []
-namedTable (Schema.Array s) = []
-namedTable (Schema.Map s) = []
-namedTable (Schema.Record fs) = []
-namedTable (Schema.Union vs ks ns) = ns
+abbrev pub kindTable : Schema → List (ℕ × ℕ)
+kindTable t = unionParts t .1
+
+abbrev pub namedTable : Schema → List ℕ
+namedTable t = unionParts t .2
 
 abbrev pub countOf : Schema → ℕ
 countOf t = countVariants (unionVariants t)

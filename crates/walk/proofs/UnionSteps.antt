@@ -27,7 +27,7 @@ use Rattle.avro.specs.Union.{Trial, noTrial, find-schema-with-known-schemata, i
 use Rattle.avro.specs.Resolve.{resolve, trials}
 use Rattle.find.specs.declared.Found.{Found}
 use Rattle.leaf.specs.Leaf.{resolvePeeled, peeledBytes}
-use Rattle.variants.specs.Ways.{OnRead, Ready, VariantAt, countOf, kindTable, namedTable, unionVariants, variantNth}
+use Rattle.variants.specs.Ways.{OnRead, Ready, VariantAt, countOf, kindTable, namedTable, unionVariants, variantNth, unionParts}
 use Rattle.variants.proofs.UnionReading.{on-read, union-parts}
 use Rattle.turns.specs.Turns.{Goes, Known, Tells, UnionPart, Within, chosenFor, isLast, nextTurn, resolves, tableBefore, treeOf, trialsFor, turnsLeft}
 use Rattle.turns.specs.declared.Due.{Due}
@@ -100,7 +100,7 @@ module _ (d dv : ℕ) (s v : List ℕ) (q : Ready d s) (x : Value) (u : List ℕ
 
 peeled-chosen : (t : Schema) (vs : Variants) (ks : List (ℕ × ℕ)) (ns : List ℕ) (x : Value) (k : ℕ) → t ≡ Schema.Union vs ks ns → kindOf x ≡ k
     → peeledBytes t x ≡ encoded (inUnion (trials (unionVariants t) x) (find-schema-with-known-schemata (trials (unionVariants t) x) (kindTable t) (namedTable t) k))
-unfolding peeledBytes resolvePeeled resolve resolve-union peel unionVariants kindTable namedTable
+unfolding peeledBytes resolvePeeled resolve resolve-union peel unionParts
 peeled-chosen t vs ks ns x k e f = rw (e, sym f)
 
 module _ (w : Walk) (s v : List ℕ) (way : Way) (g : Going w s v way) where
