@@ -238,31 +238,44 @@ pub fn named_index_and_items(n: usize) -> Row {
     row("named_index and items", &Schema::array(named(n - 10)), &value)
 }
 
-/// Maps under unions of an Array, which the kind table gives for a Map, and a Record.
-fn doubled(levels: usize, (mut schema, mut value): (Schema, Value)) -> (Schema, Value) {
+/// A union of an Array, which the kind table gives for a Map, and a Record.
+fn array_or(record: Vec<Field>, named: &[u16]) -> Schema {
+    union(vec![Schema::array(NULL), Schema::Record(record)], vec![(9, 0)], named.to_vec())
+}
+
+/// Maps under so many levels of such unions.
+fn nested(levels: usize, named: &[u16], (mut schema, mut value): (Schema, Value)) -> (Schema, Value) {
     for _ in 0..levels {
-        let record = Schema::Record(vec![Field::new("f", None, schema)]);
-        schema = union(vec![Schema::array(NULL), record], vec![(9, 0)], vec![1]);
+        schema = array_or(vec![Field::new("f", None, schema)], named);
         value = Value::Map(vec![("f".into(), value)]);
     }
     (schema, value)
 }
 
-/// So many levels of such unions around fields and a long first entry.
-pub fn levels(n: usize, levels: usize) -> Row {
+/// Such levels around fields and a long first entry.
+fn levels_of_fields(n: usize, levels: usize, named: &[u16]) -> (Schema, Value) {
     let mut fields = defaulted((0..(n - 400) / 7).map(pair));
-    let mut value = Value::Map(vec![("l".into(), nulls(n - 400)), ("m".into(), Value::Null)]);
     fields.push(Field::new("m", None, NULL));
-    let mut schema = union(vec![Schema::array(NULL), Schema::Record(fields)], vec![(9, 0)], vec![1]);
-    (schema, value) = doubled(levels - 1, (schema, value));
+    let value = Value::Map(vec![("l".into(), nulls(n - 400)), ("m".into(), Value::Null)]);
+    nested(levels - 1, named, (array_or(fields, named), value))
+}
+
+pub fn levels(n: usize, levels: usize) -> Row {
+    let (schema, value) = levels_of_fields(n, levels, &[1]);
     row(&format!("unions of an Array and a Record, {levels} levels"), &schema, &value)
 }
 
-/// The same around variants and items.
+/// The Record's position stands twice in `named_index`, which then does not rise.
+pub fn levels_unordered(n: usize, levels: usize) -> Row {
+    let (schema, value) = levels_of_fields(n, levels, &[1, 1]);
+    row(&format!("the same with a position twice, {levels} levels"), &schema, &value)
+}
+
+/// Such levels around variants and items.
 pub fn levels_of_variants(n: usize, levels: usize) -> Row {
     let mut variants = vec![BOOLEAN; n - 400];
     variants.push(NULL);
     let inner = (Schema::array(union(variants, vec![], vec![])), nulls(n - 400));
-    let (schema, value) = doubled(levels, inner);
-    row(&format!("the same around variants and items, {levels} levels"), &schema, &value)
+    let (schema, value) = nested(levels, &[1], inner);
+    row(&format!("such unions around variants and items, {levels} levels"), &schema, &value)
 }

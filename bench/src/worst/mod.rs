@@ -47,11 +47,12 @@ const SORTS: &[Sort] = &[
     sort("n * m", SIZES, frames::string_variants),
     sort("n * m", SIZES, frames::array_variants),
     sort("n * m", SIZES, frames::variants),
-    sort("n * n", SIZES, frames::named_index),
+    sort("n", SIZES, frames::named_index),
     sort("n * n", SIZES, frames::named_repeats),
-    sort("n * n * m", &[1_000, 2_000, 4_000, 8_000], frames::named_index_and_items),
-    sort("2 ^ levels * n * m", LEVELS, |l| frames::levels(FULL, l)),
-    sort("2 ^ levels * n * m", &[1, 2, 3, 4, 5, 6], |l| frames::levels_of_variants(SMALL, l)),
+    sort("n * m", SIZES, frames::named_index_and_items),
+    sort("n * m", LEVELS, |l| frames::levels(FULL, l)),
+    sort("2 ^ levels * n * m", LEVELS, |l| frames::levels_unordered(FULL, l)),
+    sort("n * m", &[1, 2, 3, 4, 5, 6], |l| frames::levels_of_variants(SMALL, l)),
 ];
 
 unsafe extern "C" {
