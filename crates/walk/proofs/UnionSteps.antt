@@ -179,9 +179,10 @@ module _ (w : Walk) (s v : List ℕ) (way : Way) (turn : Turn) (position place :
     turn-accepted o n x f a b = variant-chosen w s v way (t .going) i at (e .1 .0) (e .0) o (Accepted n)
         (accepted-chosen (t .going .goes) (t .going .tree) turn i (e .0) (t .known) (e .1 .1) (variant-accepted w s v way (t .going) i at (e .1 .0) (e .0) o n x) (sym a ∙ b)) x
 
-    pub turn-beaten : (o : List ℕ) (n u : ℕ) → Wrote (onBoth (indexedBytes i) (readSchema (w .schema - 1) (drop at s)) (readValue (w .value) v)) o (Accepted n) → (f : Found) → f ≡ tableBefore (way .table) i turn → f ≡ Found.At u → Behind w s v way u i
+    pub turn-beaten : (o : List ℕ) (n u : ℕ) → Wrote (onBoth (indexedBytes i) (readSchema (w .schema - 1) (drop at s)) (readValue (w .value) v)) o (Accepted n) → (f : Found) → f ≡ tableBefore (way .table) i turn → f ≡ Found.At u → Behind w s v u i
     unfolding Tells
     turn-beaten o n u x f a b = record {
+      way = way;
       going = t .going;
       beaten = beaten (t .going .goes) (t .going .tree) turn i u (t .known) (e .1 .1) (variant-accepted w s v way (t .going) i at (e .1 .0) (e .0) o n x) (sym a ∙ b);
     }
@@ -233,7 +234,7 @@ module _ (w : Walk) (s v : List ℕ) (way : Way) (turn : Turn) (position at : �
 
 -- ---- the table's variant before a named one
 
-module _ (w : Walk) (s v : List ℕ) (way : Way) (u i : ℕ) (b : Behind w s v way u i) where
+module _ (w : Walk) (s v : List ℕ) (u i : ℕ) (b : Behind w s v u i) where
   pub behind-table : u < countOf (treeOf (b .going .goes))
   behind-table = table-in (b .going .goes) u (b .beaten .table)
 
@@ -242,18 +243,18 @@ module _ (w : Walk) (s v : List ℕ) (way : Way) (u i : ℕ) (b : Behind w s v w
 
   module _ (p : ℕ) (a : VariantAt (w .schema) s u p) where
     pub either-accepted : (o : List ℕ) (n : ℕ) → Wrote (onBoth (indexedBytes u) (readSchema (w .schema - 1) (drop p s)) (readValue (w .value) v)) o (Accepted n) → Wrote (onBoth peeledBytes (readSchema (w .schema) s) (readValue (w .value) v)) o (Accepted n)
-    either-accepted o n x = variant-chosen w s v way (b .going) u p a behind-table o (Accepted n)
-        (beaten-accepted (b .going .goes) (b .going .tree) u i (b .beaten) (variant-accepted w s v way (b .going) u p a behind-table o n x)) x
+    either-accepted o n x = variant-chosen w s v (b .way) (b .going) u p a behind-table o (Accepted n)
+        (beaten-accepted (b .going .goes) (b .going .tree) u i (b .beaten) (variant-accepted w s v (b .way) (b .going) u p a behind-table o n x)) x
 
     module _ (o : List ℕ) (n : ℕ) (x : Wrote (onBoth (indexedBytes u) (readSchema (w .schema - 1) (drop p s)) (readValue (w .value) v)) o (Refused n)) (c : Bool) (l : OnRead (λ t. c ≡ mustBeTried (schemaKind t)) (readSchema (w .schema - 1) (drop p s))) where
       pub either-untried : c ≡ false → Wrote (onBoth peeledBytes (readSchema (w .schema) s) (readValue (w .value) v)) o (Refused n)
-      either-untried f = variant-chosen w s v way (b .going) u p a behind-table o (Refused n)
-          (beaten-untried (b .going .goes) (b .going .tree) u i (b .beaten) (kind-told w s v way (b .going) u p a behind-table (λ y. y) c l ∙ f)) x
+      either-untried f = variant-chosen w s v (b .way) (b .going) u p a behind-table o (Refused n)
+          (beaten-untried (b .going .goes) (b .going .tree) u i (b .beaten) (kind-told w s v (b .way) (b .going) u p a behind-table (λ y. y) c l ∙ f)) x
 
       pub either-named : c ≡ true → (q : ℕ) → VariantAt (w .schema) s i q → (o' : List ℕ) (r : Answer) → Wrote (onBoth (indexedBytes i) (readSchema (w .schema - 1) (drop q s)) (readValue (w .value) v)) o' r
           → Wrote (onBoth peeledBytes (readSchema (w .schema) s) (readValue (w .value) v)) o' r
-      either-named f q z o' r y = variant-chosen w s v way (b .going) i q z behind-named o' r
-          (beaten-refused (b .going .goes) (b .going .tree) u i (b .beaten) (kind-told w s v way (b .going) u p a behind-table (λ y. y) c l ∙ f) (variant-refused w s v way (b .going) u p a behind-table o n x)) y
+      either-named f q z o' r y = variant-chosen w s v (b .way) (b .going) i q z behind-named o' r
+          (beaten-refused (b .going .goes) (b .going .tree) u i (b .beaten) (kind-told w s v (b .way) (b .going) u p a behind-table (λ y. y) c l ∙ f) (variant-refused w s v (b .way) (b .going) u p a behind-table o n x)) y
 
 -- ---- what the functions are called with
 

@@ -44,7 +44,8 @@ Steps w s v way turn o (Step.Refused e) = Wrote (onBoth peeledBytes (readSchema 
 Steps w s v way turn o (Step.Passed i at) = Passed w s v way turn i at
 
 -- the first named position that is taken is i, behind the table's u
-pub record Behind (w : Walk) (s v : List ℕ) (way : Way) (u i : ℕ) : Type 0 where
+pub record Behind (w : Walk) (s v : List ℕ) (u i : ℕ) : Type 0 where
+  pub way : Way
   pub going : Going w s v way
   pub beaten : Beaten (going .goes) (going .tree) u i
 

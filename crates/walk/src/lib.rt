@@ -324,7 +324,7 @@ fn take_turn(w: Walk, s: &[u8], v: &[u8], out: &mut [u8], way: Way, turn: Turn, 
             match indexed(inner, &s[at..], v, out, i) {
                 Answer::Accepted(n) => match table_before(way, i, turn) {
                     Found::Nothing => Step::Accepted(n),
-                    Found::At(u) => ended(either(w, s, v, out, way, u, i)),
+                    Found::At(u) => ended(either(w, s, v, out, u, i)),
                 },
                 Answer::Refused(e) => {
                     if is_last(&s[at..], w.schema - 1, turn) {
@@ -350,8 +350,8 @@ fn indexed(w: Walk, s: &[u8], v: &[u8], out: &mut [u8], i: usize) -> Answer
 }
 
 // The kind table's variant u, where the named one i behind it resolves: i is taken only if u must be tried and does not stand.
-fn either(w: Walk, s: &[u8], v: &[u8], out: &mut [u8], way: Way, u: usize, i: usize) -> Answer
-    requires { ⌜ Behind w (now s) (now v) way u i ⌝ }
+fn either(w: Walk, s: &[u8], v: &[u8], out: &mut [u8], u: usize, i: usize) -> Answer
+    requires { ⌜ Behind w (now s) (now v) u i ⌝ }
     ensures { λ r. ⌜ Wrote (onBoth peeledBytes (readSchema (w .schema) (now (s .entry))) (readValue (w .value) (now (v .entry)))) (now (out .exit)) r ⌝ }
 {
     let inner = Walk {

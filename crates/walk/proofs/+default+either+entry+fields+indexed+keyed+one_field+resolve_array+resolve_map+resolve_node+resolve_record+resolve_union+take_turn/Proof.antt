@@ -340,7 +340,7 @@ either-sub-indexed : (t : ℕ) → either-lts.Need-sub-indexed (either-claims t)
 either-sub-indexed t c = part-deep _ _ (c .before .before .before .before .pre .1 .going .goes .part)
 
 either-variant-at-requires : (t : ℕ) → either-lts.Need-variant-at-requires (either-claims t) (either-at t) either.Post
-either-variant-at-requires t c κs = let b = c .before .before .before .before in (ready-reads _ _ (b .pre .1 .going .goes .part .schema), b .pre .1 .going .goes .part .kind, omega (arith, part-count _ _ (b .pre .1 .going .goes .part), behind-table _ _ _ _ _ _ (b .pre .1)))
+either-variant-at-requires t c κs = let b = c .before .before .before .before in (ready-reads _ _ (b .pre .1 .going .goes .part .schema), b .pre .1 .going .goes .part .kind, omega (arith, part-count _ _ (b .pre .1 .going .goes .part), behind-table _ _ _ _ _ (b .pre .1)))
 
 either-sub-indexed-2 : (t : ℕ) → either-lts.Need-sub-indexed-2 (either-claims t) (either-at t) either.Post
 either-sub-indexed-2 t c = c .variant-at .ensures .inside
@@ -349,7 +349,7 @@ either-part-indexed-start : (t : ℕ) → either-lts.Need-part-indexed-start (ei
 either-part-indexed-start t c = c .variant-at .ensures .inside
 
 either-indexed-requires : (t : ℕ) → either-lts.Need-indexed-requires (either-claims t) (either-at t) either.Post
-either-indexed-requires t c κs = let h = part-deep _ _ (c .before .before .before .before .before .before .before .pre .1 .going .goes .part) in (omega (arith, c .before .before .before .before .before .before .before .pre .0), record { schema = rw part-to-end (variant-ready _ _ (c .before .before .before .before .before .before .before .pre .1 .going .goes .part) _ _ (c .before .before .variant-at .ensures) (behind-table _ _ _ _ _ _ (c .before .before .before .before .before .before .before .pre .1))); value = going-value _ _ _ _ (c .before .before .before .before .before .before .before .pre .1 .going); small = position-small _ _ (c .before .before .before .before .before .before .before .pre .1 .going .goes .part) (λ i. omega (arith, c .before .before .before .before .before .before .shared-slice-known .given i)) _ (behind-table _ _ _ _ _ _ (c .before .before .before .before .before .before .before .pre .1)) })
+either-indexed-requires t c κs = let h = part-deep _ _ (c .before .before .before .before .before .before .before .pre .1 .going .goes .part) in (omega (arith, c .before .before .before .before .before .before .before .pre .0), record { schema = rw part-to-end (variant-ready _ _ (c .before .before .before .before .before .before .before .pre .1 .going .goes .part) _ _ (c .before .before .variant-at .ensures) (behind-table _ _ _ _ _ (c .before .before .before .before .before .before .before .pre .1))); value = going-value _ _ _ _ (c .before .before .before .before .before .before .before .pre .1 .going); small = position-small _ _ (c .before .before .before .before .before .before .before .pre .1 .going .goes .part) (λ i. omega (arith, c .before .before .before .before .before .before .shared-slice-known .given i)) _ (behind-table _ _ _ _ _ (c .before .before .before .before .before .before .before .pre .1)) })
 
 either-sub-is-tried : (t : ℕ) → either-lts.Need-sub-is-tried (either-claims t) (either-at t) either.Post
 either-sub-is-tried t c = c .before .before .before .before .before .before .before .before .variant-at .ensures .inside
@@ -361,16 +361,16 @@ either-sub-is-tried-2 : (t : ℕ) → either-lts.Need-sub-is-tried-2 (either-cla
 either-sub-is-tried-2 t c = part-deep _ _ (c .before .before .before .before .before .before .before .before .before .before .before .before .before .before .before .pre .1 .going .goes .part)
 
 either-is-tried-requires : (t : ℕ) → either-lts.Need-is-tried-requires (either-claims t) (either-at t) either.Post
-either-is-tried-requires t c κs = rw part-to-end (variant-reads _ _ (c .before .before .before .before .before .before .before .before .before .before .before .before .before .before .before .pre .1 .going .goes .part) _ _ (c .before .before .before .before .before .before .before .before .before .before .variant-at .ensures) (behind-table _ _ _ _ _ _ (c .before .before .before .before .before .before .before .before .before .before .before .before .before .before .before .pre .1)))
+either-is-tried-requires t c κs = rw part-to-end (variant-reads _ _ (c .before .before .before .before .before .before .before .before .before .before .before .before .before .before .before .pre .1 .going .goes .part) _ _ (c .before .before .before .before .before .before .before .before .before .before .variant-at .ensures) (behind-table _ _ _ _ _ (c .before .before .before .before .before .before .before .before .before .before .before .before .before .before .before .pre .1)))
 
 either-same-length : (t : ℕ) → either-lts.Need-same-length (either-claims t) (either-at t) either.Post
 either-same-length t c = c .before .before .before .before .before .before .before .before .before .indexed .kept .1 .1 .1 .0
 
 either-returns : (t : ℕ) → either-lts.Need-returns (either-claims t) (either-at t) either.Post
-either-returns t c = either-untried _ _ _ _ _ _ (c .before .before .before .before .before .before .before .before .before .before .before .before .before .before .before .before .before .pre .1) _ (c .before .before .before .before .before .before .before .before .before .before .before .before .variant-at .ensures) _ _ (rw (c .before .before .before .before .before .e .given .1, part-to-end) at (c .before .before .before .before .before .before .before .before .before .indexed .ensures)) _ (rw part-to-end at (c .before .is-tried .ensures)) (not-true _ (c .if1 .taken))
+either-returns t c = either-untried _ _ _ _ _ (c .before .before .before .before .before .before .before .before .before .before .before .before .before .before .before .before .before .pre .1) _ (c .before .before .before .before .before .before .before .before .before .before .before .before .variant-at .ensures) _ _ (rw (c .before .before .before .before .before .e .given .1, part-to-end) at (c .before .before .before .before .before .before .before .before .before .indexed .ensures)) _ (rw part-to-end at (c .before .is-tried .ensures)) (not-true _ (c .if1 .taken))
 
 either-variant-at-requires-2 : (t : ℕ) → either-lts.Need-variant-at-requires-2 (either-claims t) (either-at t) either.Post
-either-variant-at-requires-2 t c κs = let b = c .before .before .before .before .before .before .before .before .before .before .before .before .before .before .before .before .before in (ready-reads _ _ (b .pre .1 .going .goes .part .schema), b .pre .1 .going .goes .part .kind, omega (arith, part-count _ _ (b .pre .1 .going .goes .part), behind-named _ _ _ _ _ _ (b .pre .1)))
+either-variant-at-requires-2 t c κs = let b = c .before .before .before .before .before .before .before .before .before .before .before .before .before .before .before .before .before in (ready-reads _ _ (b .pre .1 .going .goes .part .schema), b .pre .1 .going .goes .part .kind, omega (arith, part-count _ _ (b .pre .1 .going .goes .part), behind-named _ _ _ _ _ (b .pre .1)))
 
 either-sub-indexed-3 : (t : ℕ) → either-lts.Need-sub-indexed-3 (either-claims t) (either-at t) either.Post
 either-sub-indexed-3 t c = c .variant-at2 .ensures .inside
@@ -379,19 +379,19 @@ either-part-indexed-start-2 : (t : ℕ) → either-lts.Need-part-indexed-start-2
 either-part-indexed-start-2 t c = c .variant-at2 .ensures .inside
 
 either-indexed-requires-2 : (t : ℕ) → either-lts.Need-indexed-requires-2 (either-claims t) (either-at t) either.Post
-either-indexed-requires-2 t c κs = let h = part-deep _ _ (c .before .before .before .before .before .before .before .before .before .before .before .before .before .before .before .before .before .before .before .before .pre .1 .going .goes .part) in (omega (arith, c .before .before .before .before .before .before .before .before .before .before .before .before .before .before .before .before .before .before .before .before .pre .0), record { schema = rw part-to-end (variant-ready _ _ (c .before .before .before .before .before .before .before .before .before .before .before .before .before .before .before .before .before .before .before .before .pre .1 .going .goes .part) _ _ (c .before .before .variant-at2 .ensures) (behind-named _ _ _ _ _ _ (c .before .before .before .before .before .before .before .before .before .before .before .before .before .before .before .before .before .before .before .before .pre .1))); value = going-value _ _ _ _ (c .before .before .before .before .before .before .before .before .before .before .before .before .before .before .before .before .before .before .before .before .pre .1 .going); small = position-small _ _ (c .before .before .before .before .before .before .before .before .before .before .before .before .before .before .before .before .before .before .before .before .pre .1 .going .goes .part) (λ i. omega (arith, c .before .before .before .before .before .before .before .before .before .before .before .before .before .before .before .before .before .before .before .shared-slice-known .given i)) _ (behind-named _ _ _ _ _ _ (c .before .before .before .before .before .before .before .before .before .before .before .before .before .before .before .before .before .before .before .before .pre .1)) })
+either-indexed-requires-2 t c κs = let h = part-deep _ _ (c .before .before .before .before .before .before .before .before .before .before .before .before .before .before .before .before .before .before .before .before .pre .1 .going .goes .part) in (omega (arith, c .before .before .before .before .before .before .before .before .before .before .before .before .before .before .before .before .before .before .before .before .pre .0), record { schema = rw part-to-end (variant-ready _ _ (c .before .before .before .before .before .before .before .before .before .before .before .before .before .before .before .before .before .before .before .before .pre .1 .going .goes .part) _ _ (c .before .before .variant-at2 .ensures) (behind-named _ _ _ _ _ (c .before .before .before .before .before .before .before .before .before .before .before .before .before .before .before .before .before .before .before .before .pre .1))); value = going-value _ _ _ _ (c .before .before .before .before .before .before .before .before .before .before .before .before .before .before .before .before .before .before .before .before .pre .1 .going); small = position-small _ _ (c .before .before .before .before .before .before .before .before .before .before .before .before .before .before .before .before .before .before .before .before .pre .1 .going .goes .part) (λ i. omega (arith, c .before .before .before .before .before .before .before .before .before .before .before .before .before .before .before .before .before .before .before .shared-slice-known .given i)) _ (behind-named _ _ _ _ _ (c .before .before .before .before .before .before .before .before .before .before .before .before .before .before .before .before .before .before .before .before .pre .1)) })
 
 either-same-length-2 : (t : ℕ) → either-lts.Need-same-length-2 (either-claims t) (either-at t) either.Post
 either-same-length-2 t c = c .before .before .before .before .before .indexed .kept .1 .1 .1 .0
 
 either-returns-2 : (t : ℕ) → either-lts.Need-returns-2 (either-claims t) (either-at t) either.Post
-either-returns-2 t c = either-accepted _ _ _ _ _ _ (c .before .before .before .before .before .before .before .before .before .before .before .before .before .pre .1) _ (c .before .before .before .before .before .before .before .before .variant-at .ensures) _ _ (rw (c .before .n .given .1, part-to-end) at (c .before .before .before .before .before .indexed .ensures))
+either-returns-2 t c = either-accepted _ _ _ _ _ (c .before .before .before .before .before .before .before .before .before .before .before .before .before .pre .1) _ (c .before .before .before .before .before .before .before .before .variant-at .ensures) _ _ (rw (c .before .n .given .1, part-to-end) at (c .before .before .before .before .before .indexed .ensures))
 
 either-same-length-3 : (t : ℕ) → either-lts.Need-same-length-3 (either-claims t) (either-at t) either.Post
 either-same-length-3 t c = c .before .before .indexed2 .kept .1 .1 .1 .0 ∙ c .before .before .before .before .before .before .before .before .before .before .before .before .before .before .before .indexed .kept .1 .1 .1 .0
 
 either-returns-3 : (t : ℕ) → either-lts.Need-returns-3 (either-claims t) (either-at t) either.Post
-either-returns-3 t c = either-named _ _ _ _ _ _ (c .before .before .before .before .before .before .before .before .before .before .before .before .before .before .before .before .before .before .before .before .before .before .before .pre .1) _ (c .before .before .before .before .before .before .before .before .before .before .before .before .before .before .before .before .before .before .variant-at .ensures) _ _ (rw (c .before .before .before .before .before .before .before .before .before .before .before .e .given .1, part-to-end) at (c .before .before .before .before .before .before .before .before .before .before .before .before .before .before .before .indexed .ensures)) _ (rw part-to-end at (c .before .before .before .before .before .before .before .is-tried .ensures)) (not-false _ (c .before .before .before .before .before .before .if1 .left)) _ (c .before .before .before .before .before .variant-at2 .ensures) _ _ (rw part-to-end at (c .before .before .indexed2 .ensures))
+either-returns-3 t c = either-named _ _ _ _ _ (c .before .before .before .before .before .before .before .before .before .before .before .before .before .before .before .before .before .before .before .before .before .before .before .pre .1) _ (c .before .before .before .before .before .before .before .before .before .before .before .before .before .before .before .before .before .before .variant-at .ensures) _ _ (rw (c .before .before .before .before .before .before .before .before .before .before .before .e .given .1, part-to-end) at (c .before .before .before .before .before .before .before .before .before .before .before .before .before .before .before .indexed .ensures)) _ (rw part-to-end at (c .before .before .before .before .before .before .before .is-tried .ensures)) (not-false _ (c .before .before .before .before .before .before .if1 .left)) _ (c .before .before .before .before .before .variant-at2 .ensures) _ _ (rw part-to-end at (c .before .before .indexed2 .ensures))
 
 entry-content-requires : (t : ℕ) → entry-lts.Need-content-requires (entry-claims t) (entry-at t) entry.Post
 entry-content-requires t c κs = entry-counted _ _ (c .before .before .before .pre .1 .entry)
