@@ -92,8 +92,8 @@ fn resolve_array(w: Walk, s: &[u8], v: &[u8], out: &mut [u8]) -> Answer
     let mut at = put(out, &v[..3]);
     let mut from: usize = 3;
     while 0 < left {
-        let o = room(at, out.len());
-        match resolve_node(below, &s[1..], &v[from..], &mut out[o..]) {
+        let to = room(at, out.len());
+        match resolve_node(below, &s[1..], &v[from..], &mut out[to..]) {
             Answer::Accepted(m) => {
                 at = joined(at, m);
             }
