@@ -19,7 +19,7 @@ use Rattle.variants.proofs.UnionReading.{on-read}
 use Rattle.turns.specs.declared.Due.{Due}
 use Rattle.turns.specs.declared.Turn.{Turn}
 use Rattle.turns.specs.declared.Way.{Way}
-use Rattle.turns.specs.Turns.{UnionPart, Goes, NamedIs, NamedTells, Skipped, Skips, Splits, Tells, Tries, Ends, Wants, positionAt, treeOf}
+use Rattle.turns.specs.Turns.{UnionPart, Goes, NamedIs, NamedTells, Skipped, Skips, Splits, Tells, Tries, NoneLeft, Wants, positionAt, treeOf}
 use Rattle.turns.proofs.PartLaws.{part-count, named-below, table-below, base-there}
 use Rattle.turns.proofs.Positions.{splits-all}
 
@@ -141,7 +141,7 @@ module _ {d : ℕ} {s : List ℕ} {way : Way} (g : Goes d s way) where
   table-due u at p e = (table-in u e, (p, e))
 
   pub any-over : (i n : ℕ) → n ≡ numberAt s 1 2 → n ≤ i → Tells g (Turn.Any i) Due.Over
-  unfolding Tells Ends
+  unfolding Tells NoneLeft
   any-over i n e h = omega (arith, part-count d s (g .part))
 
   module _ (i at n : ℕ) (p : VariantAt d s i at) (e : n ≡ numberAt s 1 2) (h : i < n) where

@@ -8,18 +8,18 @@ use lib.Dec.{ltb}
 use borrow.Author.Tests.{ltb-true, ltb-false}
 use Rattle.number.specs.Number.{numberAt}
 use Rattle.find.specs.declared.Found.{Found}
-use Rattle.turns.specs.Turns.{positionAt, Rises, NotBelow, Splits}
+use Rattle.turns.specs.Turns.{positionAt, PositionsRise, NotBelow, Splits}
 
 module _ (s : List ℕ) (at : ℕ) where
-  pub rises-start : Rises s at 1
-  unfolding Rises
+  pub rises-start : PositionsRise s at 1
+  unfolding PositionsRise
   rises-start i j l h = absurd (omega arith)
 
   last-place : (j : ℕ) → 1 ≤ j → at + 2 * j - 2 ≡ at + 2 * (j - 1)
   last-place j h = omega arith
 
-  pub rises-step : (j : ℕ) → 1 ≤ j → Rises s at j → numberAt s (at + 2 * j - 2) 2 < numberAt s (at + 2 * j) 2 → Rises s at (j + 1)
-  unfolding Rises
+  pub rises-step : (j : ℕ) → 1 ≤ j → PositionsRise s at j → numberAt s (at + 2 * j - 2) 2 < numberAt s (at + 2 * j) 2 → PositionsRise s at (j + 1)
+  unfolding PositionsRise
   rises-step j h r e i k l m = go (ltb k j) (ltb i (j - 1)) refl refl
     where
       next : positionAt s at (j - 1) < positionAt s at j
@@ -35,13 +35,13 @@ module _ (s : List ℕ) (at : ℕ) where
           let y : i ≡ j - 1 = omega (arith, ltb-false i (j - 1) q) in
           rw (z, y) next
 
-  pub rises-fewer : (j count : ℕ) → Rises s at j → count ≤ j → Rises s at count
-  unfolding Rises
+  pub rises-fewer : (j count : ℕ) → PositionsRise s at j → count ≤ j → PositionsRise s at count
+  unfolding PositionsRise
   rises-fewer j count r h i k l m = r i k l (omega arith)
 
   -- where they rise, those behind one that is not below u are not either
-  pub not-below : (count u j : ℕ) → Rises s at count → j < count → u ≤ positionAt s at j → NotBelow s at count u j
-  unfolding Rises NotBelow
+  pub not-below : (count u j : ℕ) → PositionsRise s at count → j < count → u ≤ positionAt s at j → NotBelow s at count u j
+  unfolding PositionsRise NotBelow
   not-below count u j r h e = (omega arith, λ k l m. go k l m (ltb j k) refl)
     where
       go : (k : ℕ) → j ≤ k → k < count → (b : Bool) → ltb j k ≡ b → u ≤ positionAt s at k

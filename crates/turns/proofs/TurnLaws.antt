@@ -9,7 +9,7 @@ use native.Mathlib.Omega.{arith}
 use borrow.Author.Count.{below-more}
 use lib.Dec.{ltb, eqb}
 use lib.ListN.{length, getD}
-use borrow.Author.Tests.{lt-ltb, ltb-true, ltb-false}
+use borrow.Author.Tests.{lt-ltb, ltb-true, ltb-false, not-true, not-false}
 use Rattle.base.specs.Base.{if_then_else_, accepted}
 use Rattle.frame.specs.Tree.{Value}
 use Rattle.avro.specs.Union.{Trial, noTrial, choose, find-schema-with-known-schemata, mustBeTried, namedKind, namedVariant, positionOf, tableLookup, takeVariant, takes, unnamedKind, unnamedVariant}
@@ -18,7 +18,7 @@ use Rattle.find.specs.declared.Found.{Found}
 use Rattle.variants.specs.Ways.{baseAt, countOf, kindTable, namedTable, unionVariants, variantNth}
 use Rattle.turns.specs.declared.Turn.{Turn}
 use Rattle.turns.specs.declared.Way.{Way}
-use Rattle.turns.specs.Turns.{Goes, Known, NamedIs, NoneTaken, NotBelow, Passes, Skipped, Skips, Splits, Ends, Tries, Untaken, Wants, Beaten, chosenFor, isLast, nextTurn, soonerThan, tableBefore, resolves, treeOf, trialsFor, turnsLeft}
+use Rattle.turns.specs.Turns.{Goes, ToldBefore, NamedIs, NoneTaken, NotBelow, Passes, Skipped, Skips, Splits, NoneLeft, Tries, Untaken, Wants, Beaten, chosenFor, isLast, nextTurn, soonerThan, tableBefore, resolves, treeOf, trialsFor, turnsLeft}
 use Rattle.turns.proofs.PartLaws.{trialOf, trial-nth, trials-length}
 use Rattle.turns.proofs.DueLaws.{before-count, found-at, found-none, named-in}
 
@@ -83,8 +83,8 @@ module _ {d : ℕ} {s : List ℕ} {way : Way} (g : Goes d s way) (w : Value) whe
 
   -- ---- what is known
 
-  pub known-start : Known g w (Turn.Before 0)
-  unfolding Known NoneTaken
+  pub known-start : ToldBefore g w (Turn.Before 0)
+  unfolding ToldBefore NoneTaken
   known-start = (omega arith, λ m l. absurd (omega arith))
 
   taken-more : (j : ℕ) → NoneTaken g w j → takes (way .kind) (trialsFor g w) (getD (g .named) j 0) ≡ false → NoneTaken g w (j + 1)
@@ -94,23 +94,23 @@ module _ {d : ℕ} {s : List ℕ} {way : Way} (g : Goes d s way) (w : Value) whe
   taken-as : (i j : ℕ) → i ≡ j → NoneTaken g w i → NoneTaken g w j
   taken-as i j e n = subst (NoneTaken g w) e n
 
-  pub known-next : (turn : Turn) → Known g w turn → Passes g w turn → Known g w (nextTurn way turn)
-  unfolding Known Passes nextTurn
+  pub known-next : (turn : Turn) → ToldBefore g w turn → Passes g w turn → ToldBefore g w (nextTurn way turn)
+  unfolding ToldBefore Passes nextTurn
   known-next (Turn.Before j) k p = go (ltb j (way .before)) refl
     where
-      go : (b : Bool) → ltb j (way .before) ≡ b → Known g w (if b then Turn.Before (j + 1) else Turn.Table)
+      go : (b : Bool) → ltb j (way .before) ≡ b → ToldBefore g w (if b then Turn.Before (j + 1) else Turn.Table)
       go true e = let l = ltb-true j (way .before) e in (omega arith, taken-more j (k .1) (p l))
       go false e = taken-as j (way .before) (omega (arith, k .0, ltb-false j (way .before) e)) (k .1)
   known-next Turn.Table k p = (omega arith, (before-count g, (k, p)))
   known-next (Turn.Behind j) k p = go (ltb j (way .count)) refl
     where
-      go : (b : Bool) → ltb j (way .count) ≡ b → Known g w (if b then Turn.Behind (j + 1) else Turn.Any 0)
+      go : (b : Bool) → ltb j (way .count) ≡ b → ToldBefore g w (if b then Turn.Behind (j + 1) else Turn.Any 0)
       go true e = let l = ltb-true j (way .count) e in (omega (arith, k .0), (omega arith, (taken-more j (k .1 .1 .0) (p l), k .1 .1 .1)))
       go false e = (omega arith, (taken-as j (way .count) (omega (arith, k .1 .0, ltb-false j (way .count) e)) (k .1 .1 .0), (k .1 .1 .1, λ m l. absurd (omega arith))))
   known-next (Turn.Any i) k p = (omega (arith, p .0), (k .1 .0, (k .1 .1 .0, below-more (λ m. resolves g w m ≡ false) i (k .1 .1 .1) (p .1))))
 
-  pub turns-fewer : (turn : Turn) → Known g w turn → Passes g w turn → turnsLeft (countOf (treeOf g)) way (nextTurn way turn) < turnsLeft (countOf (treeOf g)) way turn
-  unfolding Known Passes nextTurn turnsLeft
+  pub turns-fewer : (turn : Turn) → ToldBefore g w turn → Passes g w turn → turnsLeft (countOf (treeOf g)) way (nextTurn way turn) < turnsLeft (countOf (treeOf g)) way turn
+  unfolding ToldBefore Passes nextTurn turnsLeft
   turns-fewer (Turn.Before j) k p = go (ltb j (way .before)) refl
     where
       go : (b : Bool) → ltb j (way .before) ≡ b → turnsLeft (countOf (treeOf g)) way (if b then Turn.Before (j + 1) else Turn.Table) < way .before - j + (way .count + countOf (treeOf g) + 4)
@@ -145,8 +145,8 @@ module _ {d : ℕ} {s : List ℕ} {way : Way} (g : Goes d s way) (w : Value) whe
       go true = refl
       go false = refl
 
-  pub skips-pass : (turn : Turn) → Known g w turn → Skips g turn → Passes g w turn
-  unfolding Known Skips Passes NamedIs NoneTaken
+  pub skips-pass : (turn : Turn) → ToldBefore g w turn → Skips g turn → Passes g w turn
+  unfolding ToldBefore Skips Passes NamedIs NoneTaken
   skips-pass (Turn.Before j) k z = λ l. skipped-fails j (omega (arith, l, before-count g)) (k .1) (z l)
   skips-pass Turn.Table k z = table-untaken z
   skips-pass (Turn.Behind j) k z = λ l. ⊎-elim (skipped-fails j l (k .1 .1 .0)) (λ e. refused-fails _ (untaken-fails _ (k .1 .1 .1) e)) (z l)
@@ -162,11 +162,7 @@ module _ {d : ℕ} {s : List ℕ} {way : Way} (g : Goes d s way) (w : Value) whe
   pub refused-pass : (turn : Turn) (i : ℕ) → i < countOf (treeOf g) → Tries g turn i → resolves g w i ≡ false → isLast turn (mustBeTried (getD (trialsFor g w) i noTrial .kind)) ≡ false → Passes g w turn
   unfolding Tries NamedIs Passes isLast Untaken table
   refused-pass (Turn.Before j) i h z e f = λ l. refused-fails _ (ap (resolves g w) (z .1 .0) ∙ e)
-  refused-pass Turn.Table i h z e f = table-taken i z none (take-refused (trialsFor g w) i (untried _ f) e)
-    where
-      untried : (b : Bool) → not b ≡ false → b ≡ true
-      untried true p = refl
-      untried false p = let y : _≡_ {A = ℕ} 0 1 = cc in absurd (omega arith)
+  refused-pass Turn.Table i h z e f = table-taken i z none (take-refused (trialsFor g w) i (not-false _ f) e)
   refused-pass (Turn.Behind j) i h z e f = λ l. refused-fails _ (ap (resolves g w) (z .1 .0) ∙ e)
   refused-pass (Turn.Any n) i h z e f = subst (λ m. (m < countOf (treeOf g)) × (resolves g w m ≡ false)) (sym z) (h, e)
 
@@ -216,8 +212,8 @@ module _ {d : ℕ} {s : List ℕ} {way : Way} (g : Goes d s way) (w : Value) whe
           split true true y z = here (take-accepted (trialsFor g w) u z)
           split true false y z = chosen-by none (some i) (table-taken u e none (take-refused (trialsFor g w) u y z)) p
 
-  pub accepted-chosen : (turn : Turn) (i : ℕ) → i < countOf (treeOf g) → Known g w turn → Tries g turn i → resolves g w i ≡ true → tableBefore (way .table) i turn ≡ Found.Nothing → chosenFor g w ≡ some i
-  unfolding Known Tries tableBefore choose positionOf Untaken table
+  pub accepted-chosen : (turn : Turn) (i : ℕ) → i < countOf (treeOf g) → ToldBefore g w turn → Tries g turn i → resolves g w i ≡ true → tableBefore (way .table) i turn ≡ Found.Nothing → chosenFor g w ≡ some i
+  unfolding ToldBefore Tries tableBefore choose positionOf Untaken table
   accepted-chosen (Turn.Before j) i h k z e f = named-first i (found-first j i (omega (arith, z .0, before-count g)) (k .1) (z .1) e) f
   accepted-chosen Turn.Table i h k z e f = table-first i k z (take-accepted (trialsFor g w) i e)
   accepted-chosen (Turn.Behind j) i h k z e f = chosen-by none (some i) (k .1 .1 .1) (found-first j i (z .0) (k .1 .1 .0) (z .1) e)
@@ -226,19 +222,15 @@ module _ {d : ℕ} {s : List ℕ} {way : Way} (g : Goes d s way) (w : Value) whe
       ∙ chosen-trial (trialsFor g w)
       ∙ first-at (trialsFor g w) i (omega (arith, count-is)) (λ m l. k .1 .1 .1 m (omega (arith, z))) e
 
-  pub last-chosen : (turn : Turn) (i : ℕ) → Known g w turn → Tries g turn i → isLast turn (mustBeTried (getD (trialsFor g w) i noTrial .kind)) ≡ true → chosenFor g w ≡ some i
-  unfolding Known Tries isLast
+  pub last-chosen : (turn : Turn) (i : ℕ) → ToldBefore g w turn → Tries g turn i → isLast turn (mustBeTried (getD (trialsFor g w) i noTrial .kind)) ≡ true → chosenFor g w ≡ some i
+  unfolding ToldBefore Tries isLast
   last-chosen (Turn.Before j) i k z f = let y : _≡_ {A = ℕ} 0 1 = cc in absurd (omega arith)
-  last-chosen Turn.Table i k z f = table-first i k z (take-untried (trialsFor g w) i (untried _ f))
-    where
-      untried : (b : Bool) → not b ≡ true → b ≡ false
-      untried false p = refl
-      untried true p = let y : _≡_ {A = ℕ} 0 1 = cc in absurd (omega arith)
+  last-chosen Turn.Table i k z f = table-first i k z (take-untried (trialsFor g w) i (not-true _ f))
   last-chosen (Turn.Behind j) i k z f = let y : _≡_ {A = ℕ} 0 1 = cc in absurd (omega arith)
   last-chosen (Turn.Any n) i k z f = let y : _≡_ {A = ℕ} 0 1 = cc in absurd (omega arith)
 
-  pub none-chosen : (turn : Turn) → Known g w turn → Ends g turn → chosenFor g w ≡ none
-  unfolding Known Ends choose positionOf Untaken table
+  pub none-chosen : (turn : Turn) → ToldBefore g w turn → NoneLeft g turn → chosenFor g w ≡ none
+  unfolding ToldBefore NoneLeft choose positionOf Untaken table
   none-chosen (Turn.Before j) k z = absurd z
   none-chosen Turn.Table k z = absurd z
   none-chosen (Turn.Behind j) k z = absurd z
@@ -247,8 +239,8 @@ module _ {d : ℕ} {s : List ℕ} {way : Way} (g : Goes d s way) (w : Value) whe
 
   -- ---- a named position behind the table's, whose variant resolves
 
-  pub beaten : (turn : Turn) (i u : ℕ) → Known g w turn → Tries g turn i → resolves g w i ≡ true → tableBefore (way .table) i turn ≡ Found.At u → Beaten g w u i
-  unfolding Known Tries tableBefore soonerThan
+  pub beaten : (turn : Turn) (i u : ℕ) → ToldBefore g w turn → Tries g turn i → resolves g w i ≡ true → tableBefore (way .table) i turn ≡ Found.At u → Beaten g w u i
+  unfolding ToldBefore Tries tableBefore soonerThan
   beaten (Turn.Before j) i u k z e f =
       let b = go (way .table) refl f in
       record { named = found-first j i (omega (arith, z .0, before-count g)) (k .1) (z .1) e; table = b .0; behind = b .1 }

@@ -30,8 +30,8 @@ abbrev pub positionAt : List ℕ → ℕ → ℕ → ℕ
 positionAt s at j = numberAt s (at + 2 * j) 2
 
 -- each of them is above those before it
-unfoldable pub Rises : List ℕ → ℕ → ℕ → Type 0
-Rises s at count = (i j : ℕ) → i < j → j < count → positionAt s at i < positionAt s at j
+unfoldable pub PositionsRise : List ℕ → ℕ → ℕ → Type 0
+PositionsRise s at count = (i j : ℕ) → i < j → j < count → positionAt s at i < positionAt s at j
 
 -- from the n-th on they are not below u
 unfoldable pub NotBelow : List ℕ → ℕ → ℕ → ℕ → ℕ → Type 0
@@ -82,11 +82,11 @@ module _ {depth : ℕ} {s : List ℕ} {way : Way} (g : Goes depth s way) where
   Tries (Turn.Behind j) i = (j < way .count) × NamedIs j i
   Tries (Turn.Any n) i = n ≡ i
 
-  unfoldable pub Ends : Turn → Type 0
-  Ends (Turn.Before j) = ⊥
-  Ends Turn.Table = ⊥
-  Ends (Turn.Behind j) = ⊥
-  Ends (Turn.Any i) = countOf (treeOf g) ≤ i
+  unfoldable pub NoneLeft : Turn → Type 0
+  NoneLeft (Turn.Before j) = ⊥
+  NoneLeft Turn.Table = ⊥
+  NoneLeft (Turn.Behind j) = ⊥
+  NoneLeft (Turn.Any i) = countOf (treeOf g) ≤ i
 
   -- the same of the named positions before `end`, without `skip`
   unfoldable pub NamedTells : ℕ → ℕ → Found → Due → Type 0
@@ -98,7 +98,7 @@ module _ {depth : ℕ} {s : List ℕ} {way : Way} (g : Goes depth s way) where
   unfoldable pub Tells : Turn → Due → Type 0
   Tells turn (Due.At i at) = (i < countOf (treeOf g)) × (VariantAt depth s i at × Tries turn i)
   Tells turn (Due.Not i at) = VariantAt depth s i at × Skips turn
-  Tells turn Due.Over = Ends turn
+  Tells turn Due.Over = NoneLeft turn
 
 -- ---- what is known when a turn comes, for a value
 
@@ -122,11 +122,11 @@ module _ {depth : ℕ} {s : List ℕ} {way : Way} (g : Goes depth s way) (w : Va
   chosenFor = find-schema-with-known-schemata trialsFor (kindTable (treeOf g)) (namedTable (treeOf g)) (g .kind)
 
   -- the turn is one of this union's, and what the turns before it told
-  unfoldable pub Known : Turn → Type 0
-  Known (Turn.Before j) = (j ≤ way .before) × NoneTaken j
-  Known Turn.Table = NoneTaken (way .before)
-  Known (Turn.Behind j) = (way .before ≤ j) × ((j ≤ way .count) × (NoneTaken j × Untaken))
-  Known (Turn.Any i) = (i ≤ countOf (treeOf g)) × (NoneTaken (way .count) × (Untaken × ((m : ℕ) → m < i → resolves m ≡ false)))
+  unfoldable pub ToldBefore : Turn → Type 0
+  ToldBefore (Turn.Before j) = (j ≤ way .before) × NoneTaken j
+  ToldBefore Turn.Table = NoneTaken (way .before)
+  ToldBefore (Turn.Behind j) = (way .before ≤ j) × ((j ≤ way .count) × (NoneTaken j × Untaken))
+  ToldBefore (Turn.Any i) = (i ≤ countOf (treeOf g)) × (NoneTaken (way .count) × (Untaken × ((m : ℕ) → m < i → resolves m ≡ false)))
 
   -- the turn passes
   unfoldable pub Passes : Turn → Type 0

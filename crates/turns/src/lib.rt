@@ -22,7 +22,7 @@ ghost use Rattle.frame.specs.Tree.{schemaKind};
 ghost use Rattle.frame.specs.SchemaFrame.{readSchema};
 ghost use Rattle.avro.specs.Union.{mustBeTried};
 ghost use Rattle.variants.specs.Ways.{Among, OnRead, VariantAt};
-ghost use Rattle.turns.specs.Turns.{Goes, NamedTells, NotBelow, Rises, Splits, Tells, UnionPart, Within, isLast, nextTurn, soonerThan, tableBefore};
+ghost use Rattle.turns.specs.Turns.{Goes, NamedTells, NotBelow, PositionsRise, Splits, Tells, UnionPart, Within, isLast, nextTurn, soonerThan, tableBefore};
 
 // What a union's choice goes by, for a value of one kind: the kind table's position, the base kind of the named variants to
 // try, where their positions stand and how many there are, how many come before the table's, and whether they rise.
@@ -94,7 +94,7 @@ pub fn way_of(s: &[u8], kind: u8, depth: usize) -> Way
 // Whether the positions rise.
 fn is_rising(s: &[u8], at: usize, count: usize) -> bool
     requires { ⌜ at + 2 * count ≤ length (now s) ⌝ }
-    ensures { λ r. ⌜ (r ≡ true → Rises (now (s .entry)) at count) ⌝ }
+    ensures { λ r. ⌜ (r ≡ true → PositionsRise (now (s .entry)) at count) ⌝ }
 {
     let mut j: usize = 1;
     while j < count {
@@ -108,7 +108,7 @@ fn is_rising(s: &[u8], at: usize, count: usize) -> bool
 
 // How many of the positions come before the table's: those below it where they rise; else all of them.
 fn named_before(s: &[u8], at: usize, count: usize, table: Found, rises: bool) -> usize
-    requires { ⌜ (at + 2 * count ≤ length (now s)) × (rises ≡ true → Rises (now s) at count) ⌝ }
+    requires { ⌜ (at + 2 * count ≤ length (now s)) × (rises ≡ true → PositionsRise (now s) at count) ⌝ }
     ensures { λ r. ⌜ Splits (now (s .entry)) at count table r ⌝ }
 {
     if !rises {
@@ -122,7 +122,7 @@ fn named_before(s: &[u8], at: usize, count: usize, table: Found, rises: bool) ->
 
 // How many of the rising positions are below u.
 fn below(s: &[u8], at: usize, count: usize, u: usize) -> usize
-    requires { ⌜ (at + 2 * count ≤ length (now s)) × Rises (now s) at count ⌝ }
+    requires { ⌜ (at + 2 * count ≤ length (now s)) × PositionsRise (now s) at count ⌝ }
     ensures { λ r. ⌜ NotBelow (now (s .entry)) at count u r ⌝ }
 {
     let mut j: usize = 0;

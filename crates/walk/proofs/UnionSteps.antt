@@ -27,9 +27,10 @@ use Rattle.avro.specs.Union.{Trial, noTrial, find-schema-with-known-schemata, i
 use Rattle.avro.specs.Resolve.{resolve, trials}
 use Rattle.find.specs.declared.Found.{Found}
 use Rattle.leaf.specs.Leaf.{resolvePeeled, peeledBytes}
+use Rattle.leaf.proofs.LeafSchemas.{wrote-eq}
 use Rattle.variants.specs.Ways.{OnRead, Ready, VariantAt, countOf, kindTable, namedTable, unionVariants, variantNth, unionParts}
 use Rattle.variants.proofs.UnionReading.{on-read, union-parts}
-use Rattle.turns.specs.Turns.{Goes, Known, Tells, UnionPart, Within, chosenFor, isLast, nextTurn, resolves, tableBefore, treeOf, trialsFor, turnsLeft}
+use Rattle.turns.specs.Turns.{Goes, ToldBefore, Tells, UnionPart, Within, chosenFor, isLast, nextTurn, resolves, tableBefore, treeOf, trialsFor, turnsLeft}
 use Rattle.turns.specs.declared.Due.{Due}
 use Rattle.turns.specs.declared.Turn.{Turn}
 use Rattle.turns.specs.declared.Way.{Way}
@@ -37,7 +38,7 @@ use Rattle.turns.proofs.PartLaws.{part-start, part-long, part-count, variant-re
 use Rattle.turns.proofs.TurnLaws.{known-start, known-next, turns-fewer, skips-pass, refused-pass, accepted-chosen, last-chosen, none-chosen, beaten, beaten-accepted, beaten-untried, beaten-refused, beaten-in, trial-is}
 use Rattle.turns.proofs.DueLaws.{table-in}
 use Rattle.walk.specs.Contract.{NodeOf, nodeBytes, indexedBytes}
-use Rattle.walk.specs.UnionContract.{Behind, Going, Passed, Steps, Turning, endedOf}
+use Rattle.walk.specs.UnionContract.{EitherNode, Going, TurnPassed, Steps, Turning, endedOf}
 use Rattle.walk.specs.declared.Step.{Step}
 use Rattle.walk.specs.declared.Walk.{Walk}
 
@@ -53,9 +54,6 @@ sixth-on k o y h l = go y l
     go : (y : List ℕ) → length y ≡ length o - k → drop 5 (take k o ++ y) ≡ y
     go [] l = drop-of-length-le (take k o ++ []) {i = 5} (omega (arith, tk, length-append (take k o) []))
     go (b ∷ ys) l = let z : k ≡ 5 = omega arith in drop-at (take k o) (b ∷ ys) 5 (tk ∙ z)
-
-wrote-as : (x y : Result (List ℕ)) (o : List ℕ) (a : Answer) → x ≡ y → Wrote x o a → Wrote y o a
-wrote-as x y o a e w = subst (λ z. Wrote z o a) e w
 
 -- a variant's bytes behind its index
 union-bytes : (x : Outcome) (i : ℕ) (o o' : List ℕ) (m n : ℕ) → Wrote (encoded x) o (Accepted m) → ((c : List ℕ) → Built c o m → Built (10 ∷ bytesOf 4 i ++ c) o' n) → Wrote (encoded (x >>= (λ r. ok (Value.Union i r)))) o' (Accepted n)
@@ -89,12 +87,12 @@ module _ (d dv : ℕ) (s v : List ℕ) (q : Ready d s) (x : Value) (u : List ℕ
   unfolding indexedBytes nodeBytes
   indexed-accepted k o y o' m n h l w f =
       let e : drop 5 (take k o ++ (y ++ drop (length o - k) (drop k o))) ≡ y = ap (drop 5) (tail-back k o y) ∙ sixth-on k o y h l in
-      wrote-as _ _ o' (Accepted n) (sym (indexed-is (indexedBytes i)))
-      (union-bytes (resolve (q .tree) x) i y o' m n (wrote-as _ _ y (Accepted m) (indexed-is nodeBytes) w) (subst (λ z. (c : List ℕ) → Built c z m → Built (10 ∷ bytesOf 4 i ++ c) o' n) e f))
+      wrote-eq _ _ o' (Accepted n) (indexed-is (indexedBytes i))
+      (union-bytes (resolve (q .tree) x) i y o' m n (wrote-eq _ _ y (Accepted m) (sym (indexed-is nodeBytes)) w) (subst (λ z. (c : List ℕ) → Built c z m → Built (10 ∷ bytesOf 4 i ++ c) o' n) e f))
 
   pub indexed-refused : (o o' : List ℕ) (e : ℕ) → Wrote (onBoth nodeBytes (readSchema d s) (readValue dv v)) o (Refused e) → Wrote (onBoth (indexedBytes i) (readSchema d s) (readValue dv v)) o' (Refused e)
   unfolding indexedBytes nodeBytes
-  indexed-refused o o' e w = wrote-as _ _ o' (Refused e) (sym (indexed-is (indexedBytes i))) (union-refused (resolve (q .tree) x) i o o' e (wrote-as _ _ o (Refused e) (indexed-is nodeBytes) w))
+  indexed-refused o o' e w = wrote-eq _ _ o' (Refused e) (indexed-is (indexedBytes i)) (union-refused (resolve (q .tree) x) i o o' e (wrote-eq _ _ o (Refused e) (sym (indexed-is nodeBytes)) w))
 
 -- ---- the union's bytes
 
@@ -122,7 +120,7 @@ module _ (w : Walk) (s v : List ℕ) (way : Way) (g : Going w s v way) where
 
   pub union-none : (o : List ℕ) → chosenFor (g .goes) (g .tree) ≡ none → Union o (Refused 16)
   unfolding inUnion encoded
-  union-none o e = wrote-as _ _ o (Refused 16) (sym (union-is none e)) (wrote-refused 16 o)
+  union-none o e = wrote-eq _ _ o (Refused 16) (union-is none e) (wrote-refused 16 o)
 
   -- ---- a variant
 
@@ -135,15 +133,15 @@ module _ (w : Walk) (s v : List ℕ) (way : Way) (g : Going w s v way) where
     variant-is = rw (variant-read (w .schema) s part i at p h .1, g .reads) (ap (λ (t : Trial). encoded (t .outcome >>= (λ r. ok (Value.Union i r)))) (sym (trial-is (g .goes) (g .tree) i h)))
 
     pub variant-chosen : (o : List ℕ) (a : Answer) → chosenFor (g .goes) (g .tree) ≡ some i → Variant o a → Union o a
-    variant-chosen o a e x = wrote-as _ _ o a (variant-is ∙ sym (union-is (some i) e)) x
+    variant-chosen o a e x = wrote-eq _ _ o a (union-is (some i) e ∙ sym variant-is) x
 
     pub variant-accepted : (o : List ℕ) (n : ℕ) → Variant o (Accepted n) → resolves (g .goes) (g .tree) i ≡ true
     unfolding inUnion
-    variant-accepted o n x = union-accepted (getD (trialsFor (g .goes) (g .tree)) i noTrial .outcome) i o n (wrote-as _ _ o (Accepted n) variant-is x)
+    variant-accepted o n x = union-accepted (getD (trialsFor (g .goes) (g .tree)) i noTrial .outcome) i o n (wrote-eq _ _ o (Accepted n) (sym variant-is) x)
 
     pub variant-refused : (o : List ℕ) (e : ℕ) → Variant o (Refused e) → resolves (g .goes) (g .tree) i ≡ false
     unfolding inUnion
-    variant-refused o e x = union-not (getD (trialsFor (g .goes) (g .tree)) i noTrial .outcome) i o e (wrote-as _ _ o (Refused e) variant-is x)
+    variant-refused o e x = union-not (getD (trialsFor (g .goes) (g .tree)) i noTrial .outcome) i o e (wrote-eq _ _ o (Refused e) (sym variant-is) x)
 
     -- what a test of the variant's kind says of its trial
     pub kind-told : (f : Bool → Bool) (b : Bool) → OnRead (λ t. b ≡ f (mustBeTried (schemaKind t))) (readSchema (w .schema - 1) (drop at s)) → f (mustBeTried (getD (trialsFor (g .goes) (g .tree)) i noTrial .kind)) ≡ b
@@ -179,7 +177,7 @@ module _ (w : Walk) (s v : List ℕ) (way : Way) (turn : Turn) (position place :
     turn-accepted o n x f a b = variant-chosen w s v way (t .going) i at (e .1 .0) (e .0) o (Accepted n)
         (accepted-chosen (t .going .goes) (t .going .tree) turn i (e .0) (t .known) (e .1 .1) (variant-accepted w s v way (t .going) i at (e .1 .0) (e .0) o n x) (sym a ∙ b)) x
 
-    pub turn-beaten : (o : List ℕ) (n u : ℕ) → Wrote (onBoth (indexedBytes i) (readSchema (w .schema - 1) (drop at s)) (readValue (w .value) v)) o (Accepted n) → (f : Found) → f ≡ tableBefore (way .table) i turn → f ≡ Found.At u → Behind w s v u i
+    pub turn-beaten : (o : List ℕ) (n u : ℕ) → Wrote (onBoth (indexedBytes i) (readSchema (w .schema - 1) (drop at s)) (readValue (w .value) v)) o (Accepted n) → (f : Found) → f ≡ tableBefore (way .table) i turn → f ≡ Found.At u → EitherNode w s v u i
     unfolding Tells
     turn-beaten o n u x f a b = record {
       way = way;
@@ -221,7 +219,7 @@ turning-start w s v way q bytes g = record {
   known = known-start (g .0) (q .value .0);
 }
 
-module _ (w : Walk) (s v : List ℕ) (way : Way) (turn : Turn) (position at : ℕ) (p : Passed w s v way turn position at) (next : Turn) (e : next ≡ nextTurn way turn) where
+module _ (w : Walk) (s v : List ℕ) (way : Way) (turn : Turn) (position at : ℕ) (p : TurnPassed w s v way turn position at) (next : Turn) (e : next ≡ nextTurn way turn) where
   pub turning-next : Turning w s v way next position at
   turning-next = subst (λ x. Turning w s v way x position at) (sym e) (record {
     going = p .turning .going;
@@ -234,7 +232,7 @@ module _ (w : Walk) (s v : List ℕ) (way : Way) (turn : Turn) (position at : �
 
 -- ---- the table's variant before a named one
 
-module _ (w : Walk) (s v : List ℕ) (u i : ℕ) (b : Behind w s v u i) where
+module _ (w : Walk) (s v : List ℕ) (u i : ℕ) (b : EitherNode w s v u i) where
   pub behind-table : u < countOf (treeOf (b .going .goes))
   behind-table = table-in (b .going .goes) u (b .beaten .table)
 
@@ -265,8 +263,8 @@ pub position-small : (d : ℕ) (s : List ℕ) (q : UnionPart d s) → ((i : ℕ)
 position-small d s q b i h = omega (arith, part-count d s q, numberAt-< s 1 2 (part-long d s q) (getD-allBytes s b))
 
 -- the position of a turn is small
-pub turning-within : (w : Walk) (s v : List ℕ) (way : Way) (turn : Turn) (position at : ℕ) → Passed w s v way turn position at → ((i : ℕ) → getD s i 0 < 256) → Within turn
-unfolding Within Known
+pub turning-within : (w : Walk) (s v : List ℕ) (way : Way) (turn : Turn) (position at : ℕ) → TurnPassed w s v way turn position at → ((i : ℕ) → getD s i 0 < 256) → Within turn
+unfolding Within ToldBefore
 turning-within w s v way (Turn.Before j) position at p b = tt
 turning-within w s v way Turn.Table position at p b = tt
 turning-within w s v way (Turn.Behind j) position at p b = tt
@@ -274,6 +272,6 @@ turning-within w s v way (Turn.Any i) position at p b =
     let q = p .turning .going .goes .part in omega (arith, p .turning .known .0, part-count (w .schema) s q, numberAt-< s 1 2 (part-long (w .schema) s q) (getD-allBytes s b))
 
 -- a turn that passed
-pub passed-of : (w : Walk) (s v : List ℕ) (way : Way) (turn : Turn) (o : List ℕ) (i at : ℕ) → Steps w s v way turn o (Step.Passed i at) → Passed w s v way turn i at
+pub passed-of : (w : Walk) (s v : List ℕ) (way : Way) (turn : Turn) (o : List ℕ) (i at : ℕ) → Steps w s v way turn o (Step.Passed i at) → TurnPassed w s v way turn i at
 unfolding Steps
 passed-of w s v way turn o i at h = h

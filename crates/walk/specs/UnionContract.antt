@@ -12,7 +12,7 @@ use Rattle.buffer.specs.declared.Answer.{Answer}
 use Rattle.buffer.specs.declared.Answer.the-variants.{Accepted, Refused}
 use Rattle.leaf.specs.Leaf.{peeledBytes}
 use Rattle.variants.specs.Ways.{VariantAt}
-use Rattle.turns.specs.Turns.{Beaten, Goes, Known, Passes}
+use Rattle.turns.specs.Turns.{Beaten, Goes, ToldBefore, Passes}
 use Rattle.turns.specs.declared.Turn.{Turn}
 use Rattle.turns.specs.declared.Way.{Way}
 use Rattle.walk.specs.declared.Step.{Step}
@@ -30,10 +30,10 @@ pub record Going (w : Walk) (s v : List ℕ) (way : Way) : Type 0 where
 pub record Turning (w : Walk) (s v : List ℕ) (way : Way) (turn : Turn) (position at : ℕ) : Type 0 where
   pub going : Going w s v way
   pub there : VariantAt (w .schema) s position at
-  pub known : Known (going .goes) (going .tree) turn
+  pub known : ToldBefore (going .goes) (going .tree) turn
 
 -- behind a turn that passed
-pub record Passed (w : Walk) (s v : List ℕ) (way : Way) (turn : Turn) (position at : ℕ) : Type 0 where
+pub record TurnPassed (w : Walk) (s v : List ℕ) (way : Way) (turn : Turn) (position at : ℕ) : Type 0 where
   pub turning : Turning w s v way turn position at
   pub passes : Passes (turning .going .goes) (turning .going .tree) turn
 
@@ -41,10 +41,10 @@ pub record Passed (w : Walk) (s v : List ℕ) (way : Way) (turn : Turn) (positio
 unfoldable pub Steps : Walk → List ℕ → List ℕ → Way → Turn → List ℕ → Step → Type 0
 Steps w s v way turn o (Step.Accepted n) = Wrote (onBoth peeledBytes (readSchema (w .schema) s) (readValue (w .value) v)) o (Accepted n)
 Steps w s v way turn o (Step.Refused e) = Wrote (onBoth peeledBytes (readSchema (w .schema) s) (readValue (w .value) v)) o (Refused e)
-Steps w s v way turn o (Step.Passed i at) = Passed w s v way turn i at
+Steps w s v way turn o (Step.Passed i at) = TurnPassed w s v way turn i at
 
 -- the first named position that is taken is i, behind the table's u
-pub record Behind (w : Walk) (s v : List ℕ) (u i : ℕ) : Type 0 where
+pub record EitherNode (w : Walk) (s v : List ℕ) (u i : ℕ) : Type 0 where
   pub way : Way
   pub going : Going w s v way
   pub beaten : Beaten (going .goes) (going .tree) u i

@@ -36,7 +36,7 @@ ghost use Rattle.buffer.specs.Built.{Wrote};
 ghost use Rattle.types.specs.Contract.{onBoth};
 ghost use Rattle.leaf.specs.Leaf.{peeledBytes};
 ghost use Rattle.walk.specs.Contract.{EntryNode, FieldNode, FieldsNode, KeyedNode, Node, NodeOf, ReadyDefault, VariantNode, defaultBytes, entryBytes, fieldBytes, indexedBytes, nodeBytes};
-ghost use Rattle.walk.specs.UnionContract.{Behind, Steps, Turning, endedOf};
+ghost use Rattle.walk.specs.UnionContract.{EitherNode, Steps, Turning, endedOf};
 
 // How many levels the schema and the value may still have.
 pub struct Walk {
@@ -351,7 +351,7 @@ fn indexed(w: Walk, s: &[u8], v: &[u8], out: &mut [u8], i: usize) -> Answer
 
 // The kind table's variant u, where the named one i behind it resolves: i is taken only if u must be tried and does not stand.
 fn either(w: Walk, s: &[u8], v: &[u8], out: &mut [u8], u: usize, i: usize) -> Answer
-    requires { ⌜ Behind w (now s) (now v) u i ⌝ }
+    requires { ⌜ EitherNode w (now s) (now v) u i ⌝ }
     ensures { λ r. ⌜ Wrote (onBoth peeledBytes (readSchema (w .schema) (now (s .entry))) (readValue (w .value) (now (v .entry)))) (now (out .exit)) r ⌝ }
 {
     let inner = Walk {

@@ -2,13 +2,13 @@
 use Prim.Native.Nat.{ℕ, _≤_, _-_}
 use mathlib.Core.Path.{_≡_}
 use native.Mathlib.Omega.{arith}
-use Rattle.turns.specs.Turns.{Rises}
+use Rattle.turns.specs.Turns.{PositionsRise}
 use Rattle.turns.proofs.Positions.{rises-start, rises-step, rises-fewer}
 use Rattle.turns.proofs.is_rising.Statement.{statement}
 use Rattle.turns.proofs.is_rising.Tie as tie
 
 abbrev Inv-loop : tie.InvT-loop
-Inv-loop s at count j₀ j = (1 ≤ j) × Rises s at j
+Inv-loop s at count j₀ j = (1 ≤ j) × PositionsRise s at j
 
 abbrev μ-loop : tie.MeasureT-loop
 μ-loop s at count j₀ j = count - j
