@@ -11,33 +11,27 @@ use Rattle.turns.proofs.any_due.Tie as tie
 read2-requires : tie.Need-read2-requires
 read2-requires c κs = omega (arith, part-long _ _ (c .before .pre .0 .part))
 
--- src/lib.rt:216:8
 cast-if1 : tie.Need-cast-if1
 cast-if1 c = search needs
 
 returns : tie.Need-returns
 returns c = λ g. any-over g _ _ (c .before .read2 .ensures) (c .if1 .taken)
 
--- src/lib.rt:219:9
 reach-requires : tie.Need-reach-requires
 reach-requires c κs = search needs
 
--- src/lib.rt:221:8
 is-at-requires : tie.Need-is-at-requires
 is-at-requires c κs = search needs
 
 returns-2 : tie.Need-returns-2
 returns-2 c = λ g. any-table g _ _ _ (c .before .before .reach .ensures) (c .before .before .before .before .read2 .ensures) (omega (arith, c .before .before .before .if1 .left)) (sym (c .before .is-at .ensures) ∙ c .if2 .taken)
 
--- src/lib.rt:224:18
 sub-base-kind : tie.Need-sub-base-kind
 sub-base-kind c = search needs
 
--- src/lib.rt:224:18
 part-base-kind-start : tie.Need-part-base-kind-start
 part-base-kind-start c = search needs
 
--- src/lib.rt:224:18
 part-base-kind-end : tie.Need-part-base-kind-end
 part-base-kind-end c = search needs
 
@@ -50,7 +44,6 @@ base-kind-requires c κs = rw part-to-end (variant-reads _ _ (c .before .before 
 returns-3 : tie.Need-returns-3
 returns-3 c = λ g. any-due g _ _ _ (c .before .before .before .before .before .before .reach .ensures) (c .before .before .before .before .before .before .before .before .read2 .ensures) (omega (arith, c .before .before .before .before .before .before .before .if1 .left))
 
--- src/lib.rt:227:8
 stands-in-requires : tie.Need-stands-in-requires
 stands-in-requires c κs = search needs
 

@@ -6,34 +6,27 @@ use Rattle.turns.proofs.DueLaws.{before-count, tells-before, tells-behi
 use Rattle.turns.proofs.due_of.Statement.{statement}
 use Rattle.turns.proofs.due_of.Tie as tie
 
--- src/lib.rt:240:22
 enum-known-turn : tie.Need-enum-known-turn
 enum-known-turn c = search needs
 
 named-due-requires : tie.Need-named-due-requires
 named-due-requires c κs = (c .before .before .before .before .pre .0, before-count (c .before .before .before .before .pre .0), c .before .before .before .before .pre .1)
 
--- src/lib.rt:241:24
 enum-told : tie.Need-enum-told
 enum-told c = search needs
 
--- src/lib.rt:241:24
 table-due-requires : tie.Need-table-due-requires
 table-due-requires c κs = search needs
 
--- src/lib.rt:242:22
 enum-known-turn-2 : tie.Need-enum-known-turn-2
 enum-known-turn-2 c = search needs
 
--- src/lib.rt:242:28
 named-due-requires-2 : tie.Need-named-due-requires-2
 named-due-requires-2 c κs = search needs
 
--- src/lib.rt:243:19
 enum-known-turn-3 : tie.Need-enum-known-turn-3
 enum-known-turn-3 c = search needs
 
--- src/lib.rt:243:25
 any-due-requires : tie.Need-any-due-requires
 any-due-requires c κs = search needs
 

@@ -8,23 +8,18 @@ use borrow.Author.Needs.{needs}
 use Rattle.turns.proofs.is_last.Statement.{statement}
 use Rattle.turns.proofs.is_last.Tie as tie
 
--- src/lib.rt:292:28
 enum-told : tie.Need-enum-told
 enum-told c = search needs
 
--- src/lib.rt:293:25
 enum-told-2 : tie.Need-enum-told-2
 enum-told-2 c = search needs
 
--- src/lib.rt:293:25
 is-tried-requires : tie.Need-is-tried-requires
 is-tried-requires c κs = search needs
 
--- src/lib.rt:294:28
 enum-told-3 : tie.Need-enum-told-3
 enum-told-3 c = search needs
 
--- src/lib.rt:295:25
 enum-told-4 : tie.Need-enum-told-4
 enum-told-4 c = search needs
 

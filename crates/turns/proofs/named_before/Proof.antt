@@ -8,11 +8,9 @@ use Rattle.turns.proofs.named_before.Tie as tie
 returns : tie.Need-returns
 returns c = splits-all _ _ _ _
 
--- src/lib.rt:118:27
 enum-told : tie.Need-enum-told
 enum-told c = search needs
 
--- src/lib.rt:119:19
 enum-known-table : tie.Need-enum-known-table
 enum-known-table c = search needs
 

@@ -11,30 +11,24 @@ use Rattle.turns.proofs.named_due.Tie as tie
 returns : tie.Need-returns
 returns c = λ g. named-end g _ _ _ (c .before .before .pre .1) _ _ (c .before .before .pre .2) (c .if1 .taken)
 
--- src/lib.rt:182:39
 mul-read2 : tie.Need-mul-read2
 mul-read2 c = search needs
 
--- src/lib.rt:182:30
 add-read2 : tie.Need-add-read2
 add-read2 c = search needs
 
--- src/lib.rt:182:13
 read2-requires : tie.Need-read2-requires
 read2-requires c κs = search needs
 
--- src/lib.rt:182:13
 cast-i : tie.Need-cast-i
 cast-i c = search needs
 
--- src/lib.rt:183:8
 is-at-requires : tie.Need-is-at-requires
 is-at-requires c κs = search needs
 
 returns-2 : tie.Need-returns-2
 returns-2 c = λ g. named-skip g _ _ _ (c .before .before .before .before .before .before .pre .1) (omega (arith, c .before .before .before .before .if1 .left)) _ (c .before .before .read2 .ensures) _ _ (c .before .before .before .before .before .before .pre .2) (sym (c .before .is-at .ensures) ∙ c .if2 .taken)
 
--- src/lib.rt:186:8
 stood-before-requires : tie.Need-stood-before-requires
 stood-before-requires c κs = search needs
 
@@ -44,15 +38,12 @@ returns-3 c = λ g. named-stood g _ _ _ (c .before .before .before .before .befo
 reach-requires : tie.Need-reach-requires
 reach-requires c κs = (c .before .before .before .before .before .before .before .before .pre .0 .part, omega (arith, part-count _ _ (c .before .before .before .before .before .before .before .before .pre .0 .part), named-in (c .before .before .before .before .before .before .before .before .pre .0) (c .before .before .before .before .before .before .before .before .args .j) (omega (arith, c .before .before .before .before .before .before .if1 .left, c .before .before .before .before .before .before .before .before .pre .1)), position-is (c .before .before .before .before .before .before .before .before .pre .0) (c .before .before .before .before .read2 .result) (c .before .before .before .before .before .before .before .before .args .j) (omega (arith, c .before .before .before .before .before .before .if1 .left, c .before .before .before .before .before .before .before .before .pre .1)) (c .before .before .before .before .read2 .ensures)), c .before .before .before .before .before .before .before .before .pre .2)
 
--- src/lib.rt:190:18
 sub-base-kind : tie.Need-sub-base-kind
 sub-base-kind c = search needs
 
--- src/lib.rt:190:18
 part-base-kind-start : tie.Need-part-base-kind-start
 part-base-kind-start c = search needs
 
--- src/lib.rt:190:18
 part-base-kind-end : tie.Need-part-base-kind-end
 part-base-kind-end c = search needs
 

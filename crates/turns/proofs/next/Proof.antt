@@ -8,11 +8,9 @@ use Rattle.turns.specs.Turns.{nextTurn, Within}
 use Rattle.turns.proofs.next.Statement.{statement}
 use Rattle.turns.proofs.next.Tie as tie
 
--- src/lib.rt:253:22
 enum-known-turn : tie.Need-enum-known-turn
 enum-known-turn c = search needs
 
--- src/lib.rt:255:37
 add-t8 : tie.Need-add-t8
 add-t8 c = search needs
 
@@ -20,15 +18,12 @@ returns : tie.Need-returns
 unfolding nextTurn
 returns c = rw (c .before .before .before .turn .given .1, lt-ltb _ _ (c .if1 .taken))
 
--- src/lib.rt:259:24
 enum-told : tie.Need-enum-told
 enum-told c = search needs
 
--- src/lib.rt:260:22
 enum-known-turn-2 : tie.Need-enum-known-turn-2
 enum-known-turn-2 c = search needs
 
--- src/lib.rt:262:37
 add-t10 : tie.Need-add-t10
 add-t10 c = search needs
 
@@ -36,7 +31,6 @@ returns-2 : tie.Need-returns-2
 unfolding nextTurn
 returns-2 c = rw (c .before .before .before .turn2 .given .1, lt-ltb _ _ (c .if2 .taken))
 
--- src/lib.rt:266:19
 enum-known-turn-3 : tie.Need-enum-known-turn-3
 enum-known-turn-3 c = search needs
 

@@ -6,11 +6,9 @@ use Rattle.turns.specs.Turns.{soonerThan}
 use Rattle.turns.proofs.sooner.Statement.{statement}
 use Rattle.turns.proofs.sooner.Tie as tie
 
--- src/lib.rt:288:27
 enum-told : tie.Need-enum-told
 enum-told c = search needs
 
--- src/lib.rt:289:19
 enum-known-table : tie.Need-enum-known-table
 enum-known-table c = search needs
 

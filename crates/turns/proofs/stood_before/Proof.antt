@@ -9,7 +9,6 @@ use Rattle.turns.proofs.stood_before.Tie as tie
 returns : tie.Need-returns
 returns c = λ e. let z : _≡_ {A = ℕ} 0 1 = cc in absurd (omega arith)
 
--- src/lib.rt:163:5
 stands-in-requires : tie.Need-stands-in-requires
 stands-in-requires c κs = search needs
 

@@ -4,23 +4,18 @@ use Rattle.turns.specs.Turns.{tableBefore}
 use Rattle.turns.proofs.table_before.Statement.{statement}
 use Rattle.turns.proofs.table_before.Tie as tie
 
--- src/lib.rt:276:28
 enum-told : tie.Need-enum-told
 enum-told c = search needs
 
--- src/lib.rt:276:28
 sooner-requires : tie.Need-sooner-requires
 sooner-requires c κs = search needs
 
--- src/lib.rt:277:24
 enum-told-2 : tie.Need-enum-told-2
 enum-told-2 c = search needs
 
--- src/lib.rt:278:28
 enum-told-3 : tie.Need-enum-told-3
 enum-told-3 c = search needs
 
--- src/lib.rt:279:25
 enum-told-4 : tie.Need-enum-told-4
 enum-told-4 c = search needs
 

@@ -6,11 +6,9 @@ use Rattle.turns.proofs.DueLaws.{table-in, table-none, table-due}
 use Rattle.turns.proofs.table_due.Statement.{statement}
 use Rattle.turns.proofs.table_due.Tie as tie
 
--- src/lib.rt:203:27
 enum-told : tie.Need-enum-told
 enum-told c = search needs
 
--- src/lib.rt:204:19
 enum-known-table : tie.Need-enum-known-table
 enum-known-table c = search needs
 

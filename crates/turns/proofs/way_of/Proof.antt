@@ -6,22 +6,18 @@ use Rattle.turns.proofs.DueLaws.{goes-unnamed, goes-named}
 use Rattle.turns.proofs.way_of.Statement.{statement}
 use Rattle.turns.proofs.way_of.Tie as tie
 
--- src/lib.rt:66:35
 unnamed-kind-requires : tie.Need-unnamed-kind-requires
 unnamed-kind-requires c κs = search needs
 
 table-position-requires : tie.Need-table-position-requires
 table-position-requires c κs = (ready-reads _ _ (c .before .before .pre .schema), c .before .before .pre .kind)
 
--- src/lib.rt:67:11
 named-kind-requires : tie.Need-named-kind-requires
 named-kind-requires c κs = search needs
 
--- src/lib.rt:68:24
 enum-told : tie.Need-enum-told
 enum-told c = search needs
 
--- src/lib.rt:76:22
 enum-known-k : tie.Need-enum-known-k
 enum-known-k c = search needs
 

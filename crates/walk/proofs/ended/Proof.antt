@@ -4,11 +4,9 @@ use Rattle.walk.specs.UnionContract.{endedOf}
 use Rattle.walk.proofs.ended.Statement.{statement}
 use Rattle.walk.proofs.ended.Tie as tie
 
--- src/lib.rt:401:26
 enum-known-a : tie.Need-enum-known-a
 enum-known-a c = search needs
 
--- src/lib.rt:402:25
 enum-known-a-2 : tie.Need-enum-known-a-2
 enum-known-a-2 c = search needs
 
