@@ -61,7 +61,7 @@ enum hulmbax_kind {
 };
 
 /* What stops a record. An entry answers the number below zero. The numbers are those of docs/RULES.md,
- * in its checking order. */
+ * in its checking order; of a map's failing entries the first by its key gives the number. */
 enum hulmbax_refusal {
     HULMBAX_WORKSPACE_TOO_SHORT = 1,      /* the workspace is shorter than 65,536 bytes */
     HULMBAX_SCHEMA_NO_FRAME = 2,          /* the schema is no frame */

@@ -10,7 +10,7 @@ use apache_avro::{
     types::Value as AvroValue,
 };
 use std::any::Any;
-use std::collections::{BTreeSet, HashMap};
+use std::collections::{BTreeMap, BTreeSet, HashMap};
 use std::panic::{AssertUnwindSafe, catch_unwind};
 
 type Names = HashMap<Name, AvroSchema>;
@@ -71,47 +71,56 @@ pub struct Prepared {
 }
 
 /// What the scope asks for, with a result buffer of 65,535 bytes.
-#[derive(Clone, Debug, PartialEq)]
+#[derive(Clone, Debug)]
 pub enum Answer {
     Accepted(Vec<u8>),
-    /// The number, or each that is admitted: those of a map's failing entries.
-    Refused(BTreeSet<u8>),
+    Refused(Refusal),
     /// The crate panicked. None is known.
     Panic(String),
 }
 
+/// A refusal: the number that Hulmbax must give, and what the crate gave.
+#[derive(Clone, Debug)]
+pub struct Refusal {
+    /// Where a map fails, that of its first failing entry in key order.
+    pub number: u8,
+    /// Where a map fails, those of all its failing entries: the crate's map has no order.
+    pub admitted: BTreeSet<u8>,
+    /// The crate's in this run, one of those that are admitted.
+    pub by_crate: u8,
+}
+
 pub fn refused(n: u8) -> Answer {
-    Answer::Refused(BTreeSet::from([n]))
+    Answer::Refused(Refusal { number: n, admitted: BTreeSet::from([n]), by_crate: n })
 }
 
 impl Answer {
-    /// The line of program `resolve`; several admitted numbers stand as `- 6|15`.
+    /// The line of program `resolve`.
     pub fn line(&self) -> String {
         match self {
             Answer::Accepted(b) => format!("+ {}", frame::hex(b)),
-            Answer::Refused(set) => {
-                format!("- {}", set.iter().map(|n| n.to_string()).collect::<Vec<_>>().join("|"))
-            }
+            Answer::Refused(r) => format!("- {}", r.number),
             Answer::Panic(m) => format!("! {m}"),
         }
     }
 
-    /// Whether this line of program `resolve` is right.
-    pub fn admits(&self, line: &str) -> bool {
+    /// The number or `+`, for counting.
+    pub fn sort(&self) -> String {
         match self {
-            Answer::Refused(set) => set.iter().any(|n| line == format!("- {n}")),
-            a => line == a.line(),
+            Answer::Accepted(_) => "+".into(),
+            Answer::Refused(r) => r.number.to_string(),
+            Answer::Panic(_) => "!".into(),
         }
     }
 
-    /// The one number or `+`, for counting; `None` where several numbers are admitted.
-    pub fn sort(&self) -> Option<String> {
-        match self {
-            Answer::Accepted(_) => Some("+".into()),
-            Answer::Refused(set) if set.len() == 1 => set.first().map(|n| n.to_string()),
-            Answer::Refused(_) => None,
-            Answer::Panic(_) => Some("!".into()),
-        }
+    /// Whether a map's failing entries have more than one number, so that the crate may give another.
+    pub fn several(&self) -> bool {
+        matches!(self, Answer::Refused(r) if r.admitted.len() > 1)
+    }
+
+    /// Whether the crate gave another number, which had to be admitted.
+    pub fn crate_differs(&self) -> bool {
+        matches!(self, Answer::Refused(r) if r.by_crate != r.number)
     }
 }
 
@@ -161,9 +170,10 @@ fn answer(p: &Prepared, bytes: Option<&[u8]>) -> Answer {
     match catch_unwind(AssertUnwindSafe(|| resolve(value, &p.schema, &p.names))) {
         Err(e) => Answer::Panic(panic_text(e)),
         Ok(Err(e)) => {
-            let all = admitted(again, &p.schema, &p.names);
-            assert!(all.contains(&number(&e)), "{} is not among {all:?}", number(&e));
-            Answer::Refused(all)
+            let by_crate = number(&e);
+            let n = numbers(again, &p.schema, &p.names).expect("refused once, then accepted");
+            assert!(n.admitted.contains(&by_crate), "{by_crate} is not among {:?}", n.admitted);
+            Answer::Refused(Refusal { number: n.first, admitted: n.admitted, by_crate })
         }
         Ok(Ok(v)) => {
             let out = frame::value_frame(&from_value(&v, &nans));
@@ -200,24 +210,33 @@ pub fn of_input(input: &[u8]) -> Vec<Answer> {
     }
 }
 
-/// The numbers that a refused value may give: of a map's failing entries any one's. Follows the
-/// walk of the crate down to the place where it stops; each step asks the crate.
-fn admitted(v: AvroValue, s: &AvroSchema, names: &Names) -> BTreeSet<u8> {
-    let own = match resolve(v.clone(), s, names) {
-        Ok(_) => return BTreeSet::new(),
-        Err(e) => BTreeSet::from([number(&e)]),
-    };
+/// The numbers of a refused value.
+struct Numbers {
+    /// Where a map fails, that of its first failing entry in key order.
+    first: u8,
+    /// Where a map fails, those of all its failing entries.
+    admitted: BTreeSet<u8>,
+}
+
+impl From<u8> for Numbers {
+    fn from(n: u8) -> Self {
+        Numbers { first: n, admitted: BTreeSet::from([n]) }
+    }
+}
+
+/// The numbers of a value, if it is refused. Follows the walk of the crate down to the place where
+/// it stops; each step asks the crate.
+fn numbers(v: AvroValue, s: &AvroSchema, names: &Names) -> Option<Numbers> {
+    let own = number(&resolve(v.clone(), s, names).err()?);
     let v = match (v, s) {
         (v @ AvroValue::Union(..), AvroSchema::Union(_)) => v,
         (AvroValue::Union(_, inner), _) => *inner,
         (v, _) => v,
     };
     match (v, s) {
-        (AvroValue::Map(items), AvroSchema::Map(m)) => {
-            items.into_values().flat_map(|v| admitted(v, &m.types, names)).collect()
-        }
+        (AvroValue::Map(items), AvroSchema::Map(m)) => of_entries(items, &m.types, names),
         (AvroValue::Array(items), AvroSchema::Array(a)) => {
-            items.into_iter().map(|v| admitted(v, &a.items, names)).find(|s| !s.is_empty()).unwrap()
+            items.into_iter().find_map(|v| numbers(v, &a.items, names))
         }
         (v, AvroSchema::Union(u)) => {
             let v = match v {
@@ -225,38 +244,40 @@ fn admitted(v: AvroValue, s: &AvroSchema, names: &Names) -> BTreeSet<u8> {
                 v => v,
             };
             match u.find_schema_with_known_schemata(&v, Some(names), None) {
-                None => own,
+                None => Some(own.into()),
                 Some((_, inner)) => {
                     let inner = inner.clone();
-                    admitted(v, &inner, names)
+                    numbers(v, &inner, names)
                 }
             }
         }
-        (AvroValue::Map(items), AvroSchema::Record(r)) => admitted_fields(items, r, names),
-        (AvroValue::Record(items), AvroSchema::Record(r)) => {
-            admitted_fields(items.into_iter().collect(), r, names)
-        }
-        _ => own,
+        (AvroValue::Map(items), AvroSchema::Record(r)) => of_fields(items, r, names),
+        (AvroValue::Record(items), AvroSchema::Record(r)) => of_fields(items.into_iter().collect(), r, names),
+        _ => Some(own.into()),
     }
 }
 
-fn admitted_fields(mut items: HashMap<String, AvroValue>, r: &RecordSchema, names: &Names) -> BTreeSet<u8> {
-    for f in &r.fields {
-        let set = match (items.remove(&f.name), &f.default) {
-            (Some(v), _) => admitted(v, &f.schema, names),
-            (None, None) => BTreeSet::from([17]),
-            (None, Some(d)) => admitted_default(AvroValue::try_from(d.clone()).unwrap(), &f.schema, names),
-        };
-        if !set.is_empty() {
-            return set;
-        }
-    }
-    unreachable!("a refused record has a refused field")
+/// The numbers of a map whose values have one schema: that of the first failing entry in key order
+/// and for the crate each failing entry's.
+fn of_entries(items: HashMap<String, AvroValue>, s: &AvroSchema, names: &Names) -> Option<Numbers> {
+    let by_key: BTreeMap<Vec<u8>, AvroValue> = items.into_iter().map(|(k, v)| (k.into_bytes(), v)).collect();
+    let mut failing = by_key.into_values().filter_map(|v| numbers(v, s, names));
+    let Numbers { first, mut admitted } = failing.next()?;
+    admitted.extend(failing.flat_map(|n| n.admitted));
+    Some(Numbers { first, admitted })
 }
 
-fn admitted_default(d: AvroValue, s: &AvroSchema, names: &Names) -> BTreeSet<u8> {
+fn of_fields(mut items: HashMap<String, AvroValue>, r: &RecordSchema, names: &Names) -> Option<Numbers> {
+    r.fields.iter().find_map(|f| match (items.remove(&f.name), &f.default) {
+        (Some(v), _) => numbers(v, &f.schema, names),
+        (None, None) => Some(17.into()),
+        (None, Some(d)) => of_default(AvroValue::try_from(d.clone()).unwrap(), &f.schema, names),
+    })
+}
+
+fn of_default(d: AvroValue, s: &AvroSchema, names: &Names) -> Option<Numbers> {
     let AvroSchema::Union(u) = s else {
-        return admitted(d, s, names);
+        return numbers(d, s, names);
     };
     let first = &u.variants()[0];
     let made = match first {
@@ -264,7 +285,7 @@ fn admitted_default(d: AvroValue, s: &AvroSchema, names: &Names) -> BTreeSet<u8>
         _ => resolve(d.clone(), first, names),
     };
     match made {
-        Err(_) => admitted(d, first, names),
-        Ok(v) => admitted(AvroValue::Union(0, Box::new(v)), s, names),
+        Err(_) => numbers(d, first, names),
+        Ok(v) => numbers(AvroValue::Union(0, Box::new(v)), s, names),
     }
 }

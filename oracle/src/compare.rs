@@ -62,7 +62,7 @@ pub fn compare(n: usize, seed: u64, program: &Path, dir: &Path) -> bool {
 
 /// The places at which the lines are not the answers.
 pub fn differences(want: &[Answer], got: &[String]) -> Vec<usize> {
-    let right = |i: &usize| want.get(*i).zip(got.get(*i)).is_some_and(|(w, g)| w.admits(g));
+    let right = |i: &usize| want.get(*i).zip(got.get(*i)).is_some_and(|(w, g)| w.line() == *g);
     (0..want.len().max(got.len())).filter(|i| !right(i)).collect()
 }
 
@@ -71,6 +71,8 @@ pub fn differences(want: &[Answer], got: &[String]) -> Vec<usize> {
 pub struct Counts {
     pub values: usize,
     answers: BTreeMap<String, usize>,
+    several: usize,
+    crate_differs: usize,
     families: BTreeMap<&'static str, usize>,
     met: BTreeMap<u8, usize>,
     results: BTreeMap<u8, usize>,
@@ -84,7 +86,9 @@ impl Counts {
         *self.families.entry(case.family).or_default() += want.len();
         self.values += want.len();
         for (a, line) in want.iter().zip(&lines[1..]) {
-            *self.answers.entry(a.sort().unwrap_or("several".into())).or_default() += 1;
+            *self.answers.entry(a.sort()).or_default() += 1;
+            self.several += usize::from(a.several());
+            self.crate_differs += usize::from(a.crate_differs());
             if let Some(s) = &schema {
                 self.add_met(s, line);
             }
@@ -101,12 +105,15 @@ impl Counts {
     }
 
     fn print(&self) {
-        println!("answers (`several`: a map's failing entries admit more than one number):");
-        for k in
-            ["+".to_string()].into_iter().chain((2..=18).map(|n| n.to_string())).chain(["several".into()])
-        {
+        println!("answers:");
+        for k in ["+".to_string()].into_iter().chain((2..=18).map(|n| n.to_string())) {
             println!("  {k:>7} {:9}", self.answers.get(&k).unwrap_or(&0));
         }
+        println!("maps whose failing entries have several numbers: {}", self.several);
+        println!(
+            "  the crate's is not that of the first in key order, and is admitted: {}",
+            self.crate_differs
+        );
         println!("families:");
         for (k, n) in &self.families {
             println!("  {k:12} {n:9}");

@@ -98,7 +98,7 @@ keys-lastUnder n (entry m v es) k = go (lastUnder n es) (same m n) (and-l (keysR
     go none false p q = tt
     go (some w) c p q = q
 
-default-keys : (d : Option Value) (x : Value) → d ≡ some x → T (defaultAllowed d) → T (keysRise x)
+pub default-keys : (d : Option Value) (x : Value) → d ≡ some x → T (defaultAllowed d) → T (keysRise x)
 unfolding defaultAllowed
 default-keys d x q a = and-r (defaultKinds x) (keysRise x) (subst (λ (o : Option Value). T (defaultAllowed o)) q a)
 

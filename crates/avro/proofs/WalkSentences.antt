@@ -147,7 +147,7 @@ pub array-six : (s : Schema) (v : Value) → (kindOf (peel v) ≡ Kind.Array →
 unfolding resolve resolve-array
 array-six s v h = rw (ne-eqb (kindOf (peel v)) Kind.Array h)
 
--- ---- "Of a map's several failing entries, the number of any one is given": it is the first in key order
+-- ---- map entries in order. (That it is the order of their keys: `map-number` in MapNumbers.)
 
 unfoldable pub entryOutcomes : (Value → Outcome) → Entries → List Outcome
 entryOutcomes f noEntries = []

@@ -68,11 +68,11 @@ names-sound c (q ∷ ns) h p m = go (List·Memᴰ·cases-cons m) (names-sound c 
     go (inl e) k = rw e (ltb→lt q c (and-l (ltb q c) (positionsSound c ns) h))
     go (inr n) k = k n
 
-variant-sound : {s : Schema} {vs : Variants} → VariantOf s vs → T (variantsSound vs) → T (not (eqb (schemaKind s) Kind.Union)) × T (schemaSound s)
+pub variant-sound : {s : Schema} {vs : Variants} → VariantOf s vs → T (variantsSound vs) → T (not (eqb (schemaKind s) Kind.Union)) × T (schemaSound s)
 variant-sound (first-variant {s} {vs}) h = let r = sound-variant s vs h in (r .no-union, r .schema)
 variant-sound (later-variant {s} {t} {vs} m) h = variant-sound m (sound-variant t vs h .rest)
 
-field-sound : {n : Text} {d : Option Value} {s : Schema} {fs : Fields} → FieldOf n d s fs → T (fieldsSound fs) → T (defaultAllowed d) × T (schemaSound s)
+pub field-sound : {n : Text} {d : Option Value} {s : Schema} {fs : Fields} → FieldOf n d s fs → T (fieldsSound fs) → T (defaultAllowed d) × T (schemaSound s)
 field-sound (first-field {n} {d} {s} {fs}) h = let r = sound-field n d s fs h in (r .allowed, r .schema)
 field-sound (later-field {n} {m} {d} {e} {s} {t} {fs} i) h = field-sound i (sound-field m e t fs h .rest)
 

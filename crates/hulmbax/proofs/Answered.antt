@@ -1,8 +1,8 @@
 -- docs/RULES.md, "What stops a record, in checking order", a sentence for each way: the entry's answer is the one that they give, and no other.
 use Prim.Native.Nat.{ℕ, _≤_, _<_}
-use mathlib.Core.Path.{_≡_, refl, sym, _∙_}
+use mathlib.Core.Path.{_≡_, refl, sym, ap, _∙_}
 use mathlib.Core.List.{List}
-use mathlib.Core.Logic.{_⊎_, inl, inr}
+use mathlib.Core.Logic.{_⊎_, inl, inr, _↔_}
 use mathlib.Core.Option.{Option, none, some}
 use mathlib.Core.Bool.{Bool, true, false, _||_, not}
 use native.Mathlib.Omega.{arith}
@@ -169,3 +169,26 @@ module _ {schema value : List ℕ} {buffer workspace : ℕ} where
         is-false (ltb 65535 (length (encodeValue r))) (le→nltb 65535 (length (encodeValue r)) h),
         is-false (ltb buffer (length (encodeValue r))) (le→nltb buffer (length (encodeValue r)) k),
       )
+
+-- ---- a number up to 17 is what resolution gives
+
+resolution-stops : (o : Outcome) (buffer n : ℕ) → n ≤ 17 → after o (λ r. checkedResult buffer (encodeValue r)) ≡ stop n → o ≡ stop n
+unfolding after checkedResult
+resolution-stops (stop m) buffer n h e = ap stop (stop-same e)
+  where
+    stop-same : {A : Type 0} → _≡_ {A = Result A} (stop m) (stop n) → m ≡ n
+    stop-same q = cc
+resolution-stops (ok r) buffer n h e = go (ltb 65535 (length (encodeValue r)) || ltb buffer (length (encodeValue r))) e
+  where
+    go : (b : Bool) → (if b then stop 18 else ok (encodeValue r)) ≡ stop n → ok r ≡ stop n
+    go true q = let z : 18 ≡ n = cc in absurd (omega arith)
+    go false q = let z : _≡_ {A = ℕ} 0 1 = cc in absurd (omega arith)
+
+module _ {schema value : List ℕ} {workspace : ℕ} {s : Schema} {v : Value} (p : SchemaPasses schema workspace s) (w : ValuePasses value v) (buffer : ℕ) where
+  record-is : answer schema value buffer workspace ≡ after (resolve s v) (λ r. checkedResult buffer (encodeValue r))
+  unfolding answer recordAnswer after
+  record-is = rw (room-false (p .room), passes p, value-passes w)
+
+  pub resolution-number : (n : ℕ) → n ≤ 17 → (answer schema value buffer workspace ≡ stop n) ↔ (resolve s v ≡ stop n)
+  unfolding after
+  resolution-number n h = (λ e. resolution-stops (resolve s v) buffer n h (sym record-is ∙ e), λ e. record-is ∙ ap (λ o. after o (λ r. checkedResult buffer (encodeValue r))) e)

@@ -7,3 +7,4 @@ pub mod Bounds
 pub mod CodeLaws
 pub mod Answered
 pub mod Told
+pub mod MapAnswers

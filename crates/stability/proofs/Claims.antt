@@ -1,4 +1,4 @@
--- Demand 3's claims of fitting and repeating hold of the entry.
+-- Demand 3's claims of fitting and repeating hold of the entry, and nothing is left undecided.
 use Prim.Native.Nat.{ℕ, _≤_}
 use mathlib.Core.Path.{_≡_, refl, sym, ap, _∙_, subst}
 use mathlib.Core.List.{List, [], _∷_}
@@ -20,7 +20,7 @@ use Rattle.hulmbax.specs.Answer.{answer, recordAnswer, checkedSchema, checkedVa
 use Rattle.hulmbax.specs.Entry.{resolvedOf}
 use Rattle.hulmbax.specs.declared.Resolved.the-variants.{Accepted}
 use Rattle.hulmbax.proofs.Told.{ok-is, buffer-accepted}
-use Rattle.stability.specs.Claims.{Called, Suits, Fits, Repeat, standing, Repeated, AllGive, Repeats}
+use Rattle.stability.specs.Claims.{Called, Suits, Fits, Repeat, standing, Repeated, AllGive, Repeats, Decided}
 use Rattle.frame.proofs.RoundTrip.{held, decode-encode}
 use Rattle.frame.proofs.ReadHeld.{decode-held, schema-held}
 use Rattle.avro.proofs.Made.{Stable}
@@ -180,3 +180,9 @@ all-give {schema} {value} {result} a (c ∷ cs) h =
 pub repeating : Repeats
 unfolding Repeats
 repeating schema value buffer buffer' workspace workspace' n c h calls r = all-give (accepted-call schema value buffer buffer' workspace workspace' n c h) calls r
+
+-- ---- nothing is left undecided
+
+pub decided : Decided
+unfolding Decided
+decided schema value buffer workspace buffer₁ workspace₁ buffer₂ workspace₂ r₁ r₂ c d = (c .answered ∙ sym (d .answered), c .contents ∙ sym (d .contents), c .cleared ∙ sym (d .cleared))

@@ -1,4 +1,5 @@
--- The claims of demand 3 (docs/RULES.md), made of the entry: over what its calls show, that is their answers, their result buffers and their workspaces.
+-- The claims of demand 3 (docs/RULES.md), and that nothing is left undecided, made of the entry: over what its calls show, that is their answers, their result
+-- buffers and their workspaces.
 use Prim.Native.Nat.{ℕ, _≤_}
 use mathlib.Core.Path.{_≡_}
 use mathlib.Core.List.{List, [], _∷_}
@@ -94,4 +95,13 @@ Alike =
     → (a b : List ℕ) → AreAlike tree a b
     → (buffer workspace buffer₁ workspace₁ buffer₂ workspace₂ : List ℕ) (r₁ r₂ : Resolved)
     → Called schema a buffer buffer₁ workspace workspace₁ r₁ → Called schema b buffer buffer₂ workspace workspace₂ r₂
+    → (r₁ ≡ r₂) × (buffer₁ ≡ buffer₂) × (workspace₁ ≡ workspace₂)
+
+-- ---- nothing is left undecided
+
+-- two calls with equal schema, record, buffer and workspace get the same answer, and leave the same in buffer and workspace
+unfoldable pub Decided : Type 0
+Decided =
+    (schema value buffer workspace buffer₁ workspace₁ buffer₂ workspace₂ : List ℕ) (r₁ r₂ : Resolved)
+    → Called schema value buffer buffer₁ workspace workspace₁ r₁ → Called schema value buffer buffer₂ workspace workspace₂ r₂
     → (r₁ ≡ r₂) × (buffer₁ ≡ buffer₂) × (workspace₁ ≡ workspace₂)

@@ -1,5 +1,5 @@
--- `less` is exactly the rules' order of map keys, and that order is transitive.
-use Prim.Native.Nat.{_<_}
+-- `less` is exactly the rules' order of map keys, and that order is strict and transitive.
+use Prim.Native.Nat.{ℕ, _<_}
 use mathlib.Core.Path.{_≡_, refl, _∙_}
 use mathlib.Core.List.{[], _∷_}
 use mathlib.Core.Bool.{Bool, true, false}
@@ -33,3 +33,8 @@ Below-trans (differ {x} g) (differ {y} h) = let l : x < y = omega arith in diffe
 Below-trans (differ {x} g) (share {y} e h) = let l : x < y = omega arith in differ l
 Below-trans (share {x} e g) (differ {y} h) = let l : x < y = omega arith in differ l
 Below-trans (share e g) (share f h) = share (e ∙ f) (Below-trans g h)
+
+pub Below→≢ : {a b : Text} → Below a b → a ≡ b → ⊥
+Below→≢ prefix e = let z : _≡_ {A = ℕ} 0 1 = cc in omega arith
+Below→≢ (differ {x} {y} h) e = let f : x ≡ y = cc in omega arith
+Below→≢ (share h l) e = Below→≢ l cc

@@ -127,8 +127,8 @@ fn resolve_map(w: Walk, s: &[u8], v: &[u8], out: &mut [u8]) -> Answer
             Answer::Accepted(m) => {
                 at = joined(at, m);
             }
-            Answer::Refused(e) => {
-                return Answer::Refused(e);
+            Answer::Refused(first) => {
+                return Answer::Refused(first);
             }
         }
         from += entry_len(&v[from..], w.value - 1);

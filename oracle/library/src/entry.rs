@@ -29,11 +29,11 @@ pub fn with_lengths(answer: &Answer, result: usize, workspace: usize) -> Answer 
     }
 }
 
-/// Whether the entry may give this for that answer.
-pub fn admitted(answer: &Answer, given: i32) -> bool {
+/// Whether the entry must give this for that answer.
+pub fn right(answer: &Answer, given: i32) -> bool {
     match answer {
         Answer::Accepted(b) => given == b.len() as i32,
-        Answer::Refused(set) => set.iter().any(|n| given == -(*n as i32)),
+        Answer::Refused(r) => given == -(r.number as i32),
         Answer::Panic(_) => false,
     }
 }

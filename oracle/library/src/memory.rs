@@ -1,7 +1,7 @@
 //! The entry on damaged frames, for a run under valgrind: each slice is a heap block of just its
 //! length, and the result buffer is left as the allocator gives it. The workspace holds junk: the
 //! entry reads it to see what of it is not zero.
-use crate::entry::{WORKSPACE, admitted, hulmbax_resolve, with_lengths};
+use crate::entry::{WORKSPACE, hulmbax_resolve, right, with_lengths};
 use oracle::answer::{self, Answer};
 use oracle::frame::{MAX_FRAME, hex};
 use oracle::generate::{Rng, cases, damage};
@@ -97,5 +97,5 @@ fn call(schema: &[u8], record: &[u8], result_len: usize, want: &Answer) -> bool 
         Answer::Accepted(b) => b,
         _ => &[],
     };
-    admitted(want, given) && result.begins_with(written) && workspace.begins_with(&[0; WORKSPACE])
+    right(want, given) && result.begins_with(written) && workspace.begins_with(&[0; WORKSPACE])
 }

@@ -491,7 +491,7 @@ pub fn pairs(r: &mut Rng) -> Case {
     case(&s, &v)
 }
 
-/// Several failing entries: the number of any one.
+/// Maps of several failing entries: the number of the first in key order.
 pub fn maps(r: &mut Rng) -> Case {
     let h = How { wrong: 12, wrap: 5, ..PLAIN };
     let x = match r.below(9) {

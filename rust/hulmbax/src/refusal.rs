@@ -23,7 +23,7 @@ macro_rules! refusals {
         /// bring to the schema.
         ///
         /// The numbers are those of docs/RULES.md, and the library looks for them in their
-        /// order.
+        /// order. Of a map's failing entries the first by its key gives the refusal.
         #[derive(Clone, Copy, Debug, PartialEq, Eq, PartialOrd, Ord, Hash)]
         #[repr(u8)]
         #[non_exhaustive]

@@ -735,7 +735,7 @@ resolve-map-same-length : (t : ℕ) → resolve-map-lts.Need-same-length (resolv
 resolve-map-same-length t c = let b = c .before .before .before .before .before .before .before .before .before .before .before in same-len-mid {X = ℕ} (c .before .before .before .before .before .before .before .before .before .room .result) (length (b .loop .out) - c .before .before .before .before .before .before .before .before .before .room .result) (b .loop .out) (c .before .before .before .before .before .entry .last .1 .1 .1 .0) (c .before .before .before .before .before .entry .kept .1 .1 .1 .0) ∙ b .loop .inv .same ∙ c .before .before .before .before .before .before .before .before .before .before .before .before .before .before .put .kept .0
 
 resolve-map-returns-2 : (t : ℕ) → resolve-map-lts.Need-returns-2 (resolve-map-claims t) (resolve-map-at t) resolve-map.Post resolve-map-Inv-loop resolve-map-μ-loop
-resolve-map-returns-2 t c = loop-no _ _ _ _ _ _ _ _ _ (c .before .before .before .before .before .before .before .before .before .before .before .loop .inv) (c .before .before .before .before .before .before .before .before .before .before .loop-test .taken) _ _ _ (wrote-eq _ _ _ _ (both-first _ _ _) (rw (c .before .e .given .1, part-to-end, part-to-end) at (c .before .before .before .before .before .entry .ensures)))
+resolve-map-returns-2 t c = loop-no _ _ _ _ _ _ _ _ _ (c .before .before .before .before .before .before .before .before .before .before .before .loop .inv) (c .before .before .before .before .before .before .before .before .before .before .loop-test .taken) _ _ _ (wrote-eq _ _ _ _ (both-first _ _ _) (rw (c .before .first .given .1, part-to-end, part-to-end) at (c .before .before .before .before .before .entry .ensures)))
 
 resolve-map-sub-entry-len : (t : ℕ) → resolve-map-lts.Need-sub-entry-len (resolve-map-claims t) (resolve-map-at t) resolve-map.Post resolve-map-Inv-loop resolve-map-μ-loop
 resolve-map-sub-entry-len t c = c .before .before .before .before .before .before .before .before .before .before .before .before .loop .inv .inside

@@ -86,6 +86,33 @@ fn in_a_map_the_first_key() {
 }
 
 #[test]
+fn a_bad_map_gives_the_refusal_of_its_first_failing_key() {
+    let schema = Schema::map(Schema::Int);
+    let (late, text) = (Value::Long(1 << 31), Value::from("late"));
+    let marks = |gate: &Value, windward: &Value| {
+        let fine = Value::Int(5);
+        let entries = [("windward", windward), ("gate", gate), ("finish", &fine)];
+        Value::map(entries.map(|(key, value)| (key, value.clone())))
+    };
+    assert_eq!(
+        refused(&schema, &marks(&late, &text)),
+        at("[\"gate\"]", Refusal::LongOutsideInt)
+    );
+    assert_eq!(
+        refused(&schema, &marks(&text, &late)),
+        at("[\"gate\"]", Refusal::Unsuited)
+    );
+    let by_default = RecordField::new("marks", schema).with_default(marks(&late, &text));
+    assert_eq!(
+        refused(
+            &Schema::record(vec![by_default]),
+            &Value::record::<&str>([])
+        ),
+        at("marks (default)", Refusal::LongOutsideInt)
+    );
+}
+
+#[test]
 fn in_a_map_that_stands_for_a_record() {
     let sent = Value::map([("age", Value::from("old")), ("sail", Value::Null)]);
     assert_eq!(
