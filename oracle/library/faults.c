@@ -1,6 +1,7 @@
-/* An entry with one fault (-DFAULT=1 to 11) around the true one, to see that the comparison and valgrind find it. */
+/* An entry with one fault (-DFAULT=1 to 12) around the true one, to see that the comparison and valgrind find it. */
 #include <stddef.h>
 #include <stdint.h>
+#include <string.h>
 
 #define WORKSPACE 65536
 
@@ -8,6 +9,24 @@ int32_t true_resolve(const uint8_t *schema, size_t schema_len, const uint8_t *re
                      uint8_t *result, size_t result_len, uint8_t *workspace, size_t workspace_len);
 
 volatile uint8_t read_byte;
+
+/* What a Map that got n gets without its first entry; n where there is no other, or the others are accepted. */
+int32_t without_first(int32_t n, const uint8_t *schema, size_t schema_len, const uint8_t *record, size_t record_len,
+                      uint8_t *workspace, size_t workspace_len)
+{
+    static uint8_t others[65535], out[65535];
+    unsigned count = record[1] << 8 | record[2];
+    if (count < 2) return n;
+    others[0] = record[0];
+    others[1] = (count - 1) >> 8;
+    others[2] = (count - 1) & 255;
+    for (size_t at = 6; at < record_len; at++) {
+        memcpy(others + 3, record + at, record_len - at);
+        int32_t m = true_resolve(schema, schema_len, others, record_len - at + 3, out, sizeof out, workspace, workspace_len);
+        if (m != -5) return m < 0 ? m : n;
+    }
+    return n;
+}
 
 int32_t hulmbax_resolve(const uint8_t *schema, size_t schema_len, const uint8_t *record, size_t record_len,
                         uint8_t *result, size_t result_len, uint8_t *workspace, size_t workspace_len)
@@ -36,6 +55,9 @@ int32_t hulmbax_resolve(const uint8_t *schema, size_t schema_len, const uint8_t 
     if (accepted) return n + 1;
 #elif FAULT == 11 /* reads past the record: only valgrind sees it */
     read_byte = record[record_len];
+#elif FAULT == 12 /* the number of a map's second failing entry */
+    if (n < -5 && n > -18 && schema[0] == 0x09 && record[0] == 0x09)
+        return without_first(n, schema, schema_len, record, record_len, workspace, workspace_len);
 #endif
     return n;
 }
