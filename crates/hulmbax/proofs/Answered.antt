@@ -174,10 +174,7 @@ module _ {schema value : List ℕ} {buffer workspace : ℕ} where
 
 resolution-stops : (o : Outcome) (buffer n : ℕ) → n ≤ 17 → after o (λ r. checkedResult buffer (encodeValue r)) ≡ stop n → o ≡ stop n
 unfolding after checkedResult
-resolution-stops (stop m) buffer n h e = ap stop (stop-same e)
-  where
-    stop-same : {A : Type 0} → _≡_ {A = Result A} (stop m) (stop n) → m ≡ n
-    stop-same q = cc
+resolution-stops (stop m) buffer n h e = let i : m ≡ n = cc in ap stop i
 resolution-stops (ok r) buffer n h e = go (ltb 65535 (length (encodeValue r)) || ltb buffer (length (encodeValue r))) e
   where
     go : (b : Bool) → (if b then stop 18 else ok (encodeValue r)) ≡ stop n → ok r ≡ stop n

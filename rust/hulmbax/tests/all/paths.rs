@@ -88,21 +88,21 @@ fn in_a_map_the_first_key() {
 #[test]
 fn a_bad_map_gives_the_refusal_of_its_first_failing_key() {
     let schema = Schema::map(Schema::Int);
-    let (late, text) = (Value::Long(1 << 31), Value::from("late"));
+    let (large, text) = (Value::Long(1 << 31), Value::from("late"));
     let marks = |gate: &Value, windward: &Value| {
         let fine = Value::Int(5);
         let entries = [("windward", windward), ("gate", gate), ("finish", &fine)];
         Value::map(entries.map(|(key, value)| (key, value.clone())))
     };
     assert_eq!(
-        refused(&schema, &marks(&late, &text)),
+        refused(&schema, &marks(&large, &text)),
         at("[\"gate\"]", Refusal::LongOutsideInt)
     );
     assert_eq!(
-        refused(&schema, &marks(&text, &late)),
+        refused(&schema, &marks(&text, &large)),
         at("[\"gate\"]", Refusal::Unsuited)
     );
-    let by_default = RecordField::new("marks", schema).with_default(marks(&late, &text));
+    let by_default = RecordField::new("marks", schema).with_default(marks(&large, &text));
     assert_eq!(
         refused(
             &Schema::record(vec![by_default]),
