@@ -1,8 +1,10 @@
-// Lines of texts: UTF-8, code points that fit a byte, UUID texts and the five texts of a Float.
+// Lines of texts: UTF-8, code points that fit a byte, UUID texts, the five texts of a Float and the comparison of names.
+use crate::line::space;
 use crate::told::Told;
 use crate::told::known;
 use crate::told::unknown;
 use streams::output::put;
+use streams::output::put_decimal;
 use streams::output::put_hex;
 ghost use mathlib.Core.Path.{_≡_};
 ghost use mathlib.Core.Bool.{true};
@@ -64,6 +66,22 @@ fn float_text_of(ok: bool, s: &[u8]) -> bool {
     }
 }
 
+// Two texts with a space between them: whether they are the same, and how many byte pairs were looked at.
+fn compare_of(ok: bool, given: &[u8]) -> Told {
+    let at = space(given);
+    if at == given.len() {
+        return unknown(ok);
+    }
+    let from = at + 1;
+    let c = text::compare(&given[0..at], &given[from..]);
+    let ok = if c.same {
+        put(ok, b"same ")
+    } else {
+        put(ok, b"differ ")
+    };
+    known(put_decimal(ok, c.looked as u64))
+}
+
 fn of_bytes(ok: bool, name: &[u8], b: &[u8]) -> Told {
     if text::same(name, b"utf8") {
         return known(utf8_of(ok, b));
@@ -95,6 +113,9 @@ pub(crate) fn answer(ok: bool, name: &[u8], given: &[u8]) -> Told {
     }
     if text::same(name, b"float-text") {
         return known(float_text_of(ok, given));
+    }
+    if text::same(name, b"compare") {
+        return compare_of(ok, given);
     }
     in_hex(ok, name, given)
 }
