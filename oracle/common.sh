@@ -55,6 +55,17 @@ build_archive() {
   [ "$(basename "$HULMBAX_ARCHIVE")" = libhulmbax.a ] || stop "$HULMBAX_ARCHIVE must be called libhulmbax.a"
 }
 
+# rename_before: where HULMBAX_BEFORE names an older archive, one whose entry is called before_resolve, so
+# that a program can have both.
+rename_before() {
+  [ -n "${HULMBAX_BEFORE:-}" ] || return 0
+  need_packages binutils
+  mkdir -p "$out/before"
+  objcopy --redefine-sym hulmbax_resolve=before_resolve "$HULMBAX_BEFORE" "$out/before/libbefore.a"
+  HULMBAX_BEFORE=$out/before/libbefore.a
+  export HULMBAX_BEFORE
+}
+
 run_rt() {
   command -v rt >/dev/null || stop "rt is not on the path"
   mkdir -p "$out"

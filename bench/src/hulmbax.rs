@@ -1,12 +1,28 @@
-//! The C entry of libhulmbax.a, with buffers that are kept from call to call.
+//! The C entry of libhulmbax.a, with buffers that are kept from call to call; and that of an older
+//! archive where there is one.
 use oracle::frame::MAX_FRAME;
 
 /// What the workspace must have; each call clears it.
 pub const WORKSPACE: usize = 65_536;
 
+/// Schema, record, result and workspace, each with its length. n at least 1: accepted, n bytes
+/// written. -k: refused with number k.
+type Entry = unsafe extern "C" fn(*const u8, usize, *const u8, usize, *mut u8, usize, *mut u8, usize) -> i32;
+
 unsafe extern "C" {
-    /// n at least 1: accepted, n bytes written. -k: refused with number k.
     fn hulmbax_resolve(
+        schema: *const u8,
+        schema_len: usize,
+        record: *const u8,
+        record_len: usize,
+        result: *mut u8,
+        result_len: usize,
+        workspace: *mut u8,
+        workspace_len: usize,
+    ) -> i32;
+
+    #[cfg(before)]
+    fn before_resolve(
         schema: *const u8,
         schema_len: usize,
         record: *const u8,
@@ -18,21 +34,41 @@ unsafe extern "C" {
     ) -> i32;
 }
 
-/// The result buffer and the workspace.
+/// The entry, and the one of the older archive.
+const ENTRIES: &[Entry] = &[
+    hulmbax_resolve,
+    #[cfg(before)]
+    before_resolve,
+];
+
+/// How many entries there are.
+pub const COUNT: usize = ENTRIES.len();
+
+/// An entry, its result buffer and its workspace.
 pub struct Buffers {
+    entry: Entry,
     result: Vec<u8>,
     workspace: Vec<u8>,
 }
 
 impl Buffers {
     pub fn new() -> Self {
-        Buffers { result: vec![0; MAX_FRAME], workspace: vec![0; WORKSPACE] }
+        Self::of(ENTRIES[0])
+    }
+
+    /// For each entry its own.
+    pub fn all() -> [Self; COUNT] {
+        std::array::from_fn(|i| Self::of(ENTRIES[i]))
+    }
+
+    fn of(entry: Entry) -> Self {
+        Buffers { entry, result: vec![0; MAX_FRAME], workspace: vec![0; WORKSPACE] }
     }
 
     /// The result's length, or the refusal negated.
     pub fn call(&mut self, schema: &[u8], record: &[u8]) -> i32 {
         unsafe {
-            hulmbax_resolve(
+            (self.entry)(
                 schema.as_ptr(),
                 schema.len(),
                 record.as_ptr(),

@@ -1,4 +1,5 @@
 //! Program `bench`: the crate and Hulmbax timed on the same frames. See README.md.
+mod hash;
 mod hulmbax;
 mod lean;
 mod rows;
@@ -8,8 +9,8 @@ mod worst;
 use rows::Row;
 use std::process::ExitCode;
 
-const COLUMNS: usize = 11;
-const HEAD: [&str; COLUMNS] = [
+/// The last two stand there only where there is an older archive.
+const HEAD: &[&str] = &[
     "",
     "schema",
     "value",
@@ -21,7 +22,10 @@ const HEAD: [&str; COLUMNS] = [
     "Hulmbax/B",
     "crate : H",
     "kept : H",
+    "before",
+    "before : H",
 ];
+const COLUMNS: usize = HEAD.len() - if hulmbax::COUNT > 1 { 0 } else { 2 };
 
 fn main() -> ExitCode {
     let words: Vec<String> = std::env::args().skip(1).collect();
@@ -39,8 +43,9 @@ fn main() -> ExitCode {
         "and leaves its workspace of 65,536 bytes zero in each; a fill of so many takes {clearing:.0} ns."
     );
     println!("No buffer is cleared before a call.");
-    let tables: [(&str, Vec<Row>); 5] = [
+    let tables: [(&str, Vec<Row>); 6] = [
         ("Frames", rows::rows()),
+        ("200 names: of fields, the record in another order; of symbols, a String for each", rows::names()),
         ("Fields in one record", rows::fields()),
         ("Depth, records in records", rows::depths()),
         ("Unions in unions, named_index twice, accepted", rows::unions_accepted()),
@@ -58,12 +63,12 @@ fn status(right: bool) -> ExitCode {
 /// Prints a table; how many of its rows have answers that differ.
 fn table(title: &str, rows: &[Row], rounds: usize) -> usize {
     println!("\n{title}\n");
-    line(&HEAD.map(String::from));
-    line(&std::array::from_fn(|i| if i == 0 { "---".into() } else { "---:".into() }));
+    line(HEAD[..COLUMNS].iter().map(|head| head.to_string()));
+    line((0..COLUMNS).map(|i| if i == 0 { "---".into() } else { "---:".into() }));
     let mut differ = 0;
     for row in rows {
         match time::times(row, rounds) {
-            Some(times) => line(&cells(row, times)),
+            Some(times) => line(cells(row, times).into_iter()),
             None => {
                 differ += 1;
                 println!("| {} | the answers differ |", row.name);
@@ -73,11 +78,11 @@ fn table(title: &str, rows: &[Row], rounds: usize) -> usize {
     differ
 }
 
-fn cells(row: &Row, [each, kept, hulmbax]: time::Times) -> [String; COLUMNS] {
+fn cells(row: &Row, [each, kept, hulmbax, before @ ..]: time::Times) -> Vec<String> {
     let bytes = row.bytes() as f64 / row.values.len() as f64;
     let whole = |x: f64| format!("{x:.0}");
     let parts = |x: f64| format!("{x:.2}");
-    [
+    let mut cells = vec![
         row.name.clone(),
         row.schema.len().to_string(),
         whole(bytes),
@@ -89,11 +94,13 @@ fn cells(row: &Row, [each, kept, hulmbax]: time::Times) -> [String; COLUMNS] {
         parts(hulmbax / bytes),
         parts(each / hulmbax),
         parts(kept / hulmbax),
-    ]
+    ];
+    cells.extend(before.iter().flat_map(|before| [whole(*before), parts(before / hulmbax)]));
+    cells
 }
 
-fn line(cells: &[String; COLUMNS]) {
-    print!("| {:41} |", cells[0]);
-    cells[1..].iter().for_each(|c| print!(" {c:>9} |"));
+fn line(mut cells: impl Iterator<Item = String>) {
+    print!("| {:41} |", cells.next().unwrap_or_default());
+    cells.for_each(|c| print!(" {c:>10} |"));
     println!();
 }

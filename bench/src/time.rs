@@ -1,5 +1,5 @@
-//! The three sides, the check that they answer alike, and their times.
-use crate::hulmbax::Buffers;
+//! The sides, the check that they answer alike, and their times.
+use crate::hulmbax::{self, Buffers};
 use crate::lean::{read_schema, read_value, write_value};
 use crate::rows::Row;
 use apache_avro::{Schema, schema::Name};
@@ -11,22 +11,25 @@ use std::time::Instant;
 /// Calls that are timed together take about this many nanoseconds.
 const BATCH: f64 = 1_000_000.0;
 
-/// The least time of a call in nanoseconds: the crate with the schema frame read each time, the
-/// crate with the schema kept, Hulmbax.
-pub type Times = [f64; 3];
+/// The crate with the schema frame read each time, the crate with the schema kept, Hulmbax, and the
+/// older archive where there is one.
+pub const SIDES: usize = 2 + hulmbax::COUNT;
+
+/// The least time of a call in nanoseconds, for each side.
+pub type Times = [f64; SIDES];
 
 struct Sides<'a> {
     row: &'a Row,
     schema: Schema,
     names: HashMap<Name, Schema>,
     out: Vec<u8>,
-    buffers: Buffers,
+    buffers: [Buffers; hulmbax::COUNT],
 }
 
 impl<'a> Sides<'a> {
     fn new(row: &'a Row) -> Self {
         let schema = read_schema(&row.schema).expect("the schema is a frame");
-        Sides { row, schema, names: HashMap::new(), out: Vec::with_capacity(70_000), buffers: Buffers::new() }
+        Sides { row, schema, names: HashMap::new(), out: Vec::with_capacity(70_000), buffers: Buffers::all() }
     }
 
     /// One call for the i-th value.
@@ -41,20 +44,22 @@ impl<'a> Sides<'a> {
                 black_box(crate_call(&self.schema, &self.names, value, &mut self.out)).ok();
             }
             _ => {
-                black_box(self.buffers.call(black_box(&self.row.schema), value));
+                black_box(self.buffers[side - 2].call(black_box(&self.row.schema), value));
             }
         }
     }
 
-    /// Whether the crate as timed, the crate as the comparison asks it, and Hulmbax give the same
-    /// bytes or number for each value.
+    /// Whether the crate as timed, the crate as the comparison asks it, and each archive give the
+    /// same bytes or number for each value.
     fn alike(&mut self) -> bool {
         let wanted = answer::of_case(&(self.row.schema.clone(), self.row.values.clone()));
         let mut alike = true;
         for (value, wanted) in self.row.values.iter().zip(wanted) {
             let lean = crate_call(&self.schema, &self.names, value, &mut self.out).map(|()| self.out.clone());
-            let given = self.buffers.answer(&self.row.schema, value);
-            alike &= lean == given && wanted == as_answer(given);
+            for buffers in &mut self.buffers {
+                let given = buffers.answer(&self.row.schema, value);
+                alike &= lean == given && wanted.line() == as_answer(given).line();
+            }
         }
         alike
     }
@@ -87,19 +92,19 @@ pub fn crate_call(
     Ok(())
 }
 
-/// The least times of a row over so many rounds; the three sides take turns. `None`: they differ.
+/// The least times of a row over so many rounds; the sides take turns. `None`: they differ.
 pub fn times(row: &Row, rounds: usize) -> Option<Times> {
     let mut sides = Sides::new(row);
     if !sides.alike() {
         return None;
     }
-    let batch = [0, 1, 2].map(|side| {
+    let batch: [usize; SIDES] = std::array::from_fn(|side| {
         let once = sides.time(side, 1).min(sides.time(side, 1)) * row.values.len() as f64;
         ((BATCH / once) as usize).max(1)
     });
-    let mut least = [f64::MAX; 3];
+    let mut least = [f64::MAX; SIDES];
     for _ in 0..rounds {
-        for side in 0..3 {
+        for side in 0..SIDES {
             least[side] = least[side].min(sides.time(side, batch[side]));
         }
     }

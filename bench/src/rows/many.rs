@@ -1,22 +1,57 @@
 //! Many fields, many entries, long texts.
 use super::Row;
+use crate::hash;
 use oracle::frame::{DOUBLE, Field, INT, LONG, STRING, Schema, Value};
 use oracle::generate::Rng;
 
 /// The bytes of a long text.
 const LONG_TEXT: usize = 60_000;
+/// How many names there are, where they have to be told apart.
+const NAMES: usize = 200;
 
 pub fn one_int() -> Row {
     Row::new("one Int", &INT, &[Value::Int(7)])
 }
 
-/// 200 fields whose names differ in the last three letters only; the record has another order.
-pub fn alike_names() -> Row {
-    let name = |i: usize| format!("elapsed_time_in_seconds_at_the_mark_{i:03}");
-    let schema = Schema::Record((0..200).map(|i| Field::new(&name(i), None, LONG)).collect());
-    let mut items: Vec<_> = (0..200).map(|i| (name(i), Value::Int(i as i32))).collect();
+/// Names alike but for the last digits.
+pub fn at_the_end(i: usize) -> String {
+    format!("elapsed_time_in_seconds_at_the_mark_{i:06}")
+}
+
+/// Names alike but for the first digits.
+pub fn at_the_front(i: usize) -> String {
+    format!("{i:06}_elapsed_time_in_seconds_at_the_mark")
+}
+
+/// Names of other lengths, alike as far as they go.
+pub fn by_lengths(i: usize) -> String {
+    "m".repeat(i + 1)
+}
+
+/// 200 fields with the first of these names; the record has them in another order.
+pub fn fields(title: &str, name: fn(usize) -> String) -> Row {
+    named_fields(title, (0..).map(name))
+}
+
+/// The same with the first of these names that fall into one row of the table of an entry's names.
+pub fn fields_of_one_row(title: &str, name: fn(usize) -> String) -> Row {
+    named_fields(title, (0..).map(name).filter(|name| hash::row(name) == 0))
+}
+
+fn named_fields(title: &str, names: impl Iterator<Item = String>) -> Row {
+    let names: Vec<String> = names.take(NAMES).collect();
+    let schema = Schema::Record(names.iter().map(|name| Field::new(name, None, LONG)).collect());
+    let mut items: Vec<_> = names.into_iter().zip((0..).map(Value::Int)).collect();
     Rng::new(1).shuffle(&mut items);
-    Row::new("200 fields, names differ at the end", &schema, &[Value::Record(items)])
+    Row::new(title, &schema, &[Value::Record(items)])
+}
+
+/// An Enum of 200 symbols, and a String for each in another order.
+pub fn symbols(title: &str, name: fn(usize) -> String) -> Row {
+    let names: Vec<String> = (0..NAMES).map(name).collect();
+    let mut items: Vec<_> = names.iter().map(|name| Value::text(name)).collect();
+    Rng::new(1).shuffle(&mut items);
+    Row::new(title, &Schema::array(Schema::Enum(names, None)), &[Value::Array(items)])
 }
 
 /// 200 fields with defaults, every other one missing in the record.

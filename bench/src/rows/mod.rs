@@ -27,6 +27,21 @@ impl Row {
     }
 }
 
+/// Names that have to be told apart: at the end, at the front, by their lengths.
+pub fn names() -> Vec<Row> {
+    use many::{at_the_end, at_the_front, by_lengths, fields, fields_of_one_row, symbols};
+    vec![
+        fields("fields, differ at the end", at_the_end),
+        fields_of_one_row("the same, all in one row of the table", at_the_end),
+        fields("fields, differ at the front", at_the_front),
+        fields_of_one_row("the same, all in one row of the table", at_the_front),
+        fields("fields, 1 to 200 letters", by_lengths),
+        symbols("symbols, differ at the end", at_the_end),
+        symbols("symbols, differ at the front", at_the_front),
+        symbols("symbols, 1 to 200 letters", by_lengths),
+    ]
+}
+
 /// The rows of the main table.
 pub fn rows() -> Vec<Row> {
     vec![
@@ -34,7 +49,6 @@ pub fn rows() -> Vec<Row> {
         finish::typical(),
         finish::refused_last(),
         finish::cut(),
-        many::alike_names(),
         many::half_missing(),
         growth::depth(16, "records in records, depth 16"),
         many::arrays(),

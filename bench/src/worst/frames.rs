@@ -1,4 +1,5 @@
 //! Frames whose answer takes long, by the bytes that schema and value may have.
+use crate::hash::{self, FACTOR};
 use crate::rows::Row;
 use oracle::frame::{
     BOOLEAN, Field, MAX_FRAME, NULL, STRING, Schema, Union, Value, schema_frame, value_frame,
@@ -23,9 +24,6 @@ fn name(a: u32, b: u32) -> String {
     String::from_utf8([a.to_be_bytes(), b.to_be_bytes()].concat()).unwrap()
 }
 
-/// What `text::hash` multiplies by.
-const FACTOR: u32 = 2_654_435_769;
-
 /// Names of eight letters, the words a and b, that all have one `text::hash`: a * FACTOR + b is the
 /// same for all.
 fn one_hash_names(n: usize) -> Vec<String> {
@@ -36,13 +34,9 @@ fn one_hash_names(n: usize) -> Vec<String> {
 /// Names of eight letters that all fall into the first row of the table of an entry's names, and
 /// seldom into one slot of the check's.
 fn one_row_names(n: usize) -> Vec<String> {
-    let row = |a: u32, b: u32| {
-        let product = a.wrapping_mul(FACTOR).wrapping_add(b) as u64 * FACTOR as u64;
-        (product + (product >> 32)) % 512
-    };
     let second = |i: usize| words().nth(i % 64).unwrap();
-    let pairs = words().enumerate().map(|(i, a)| (a, second(i)));
-    pairs.filter(|(a, b)| row(*a, *b) == 0).map(|(a, b)| name(a, b)).take(n).collect()
+    let all = words().enumerate().map(|(i, a)| name(a, second(i)));
+    all.filter(|name| hash::row(name) == 0).take(n).collect()
 }
 
 fn row(name: &str, schema: &Schema, value: &Value) -> Row {
