@@ -1,14 +1,13 @@
 -- Enum schemas and values as they stand in frames, and the ways of resolve_enum.
-use Prim.Native.Nat.{ℕ, _+_, _/_, _%_, _^_, _≤_, _<_}
+use Prim.Native.Nat.{ℕ, _/_, _%_, _^_, _≤_, _<_}
 use mathlib.Core.Path.{_≡_, refl, sym, ap, _∙_, subst}
 use mathlib.Core.List.{List, [], _∷_, _++_}
-use mathlib.Core.Option.{Option, none, some}
-use native.Mathlib.Nat.{zero-add, add-zero}
+use mathlib.Core.Option.{Option, some}
 use native.Mathlib.Omega.{arith}
 use borrow.Author.Tests.{ne-eqb}
 use lib.Dec.{T}
 use lib.ListN.{length, getD, drop, length-drop}
-use lib.Seq.{drop-drop, getD-drop}
+use lib.Seq.{drop-drop}
 use Rattle.number.specs.Number.{allBytes, numberAt, bytesOf}
 use Rattle.text.specs.Text.{Text}
 use Rattle.text.specs.Read.{_>>=_, readNumber, readCounted, readText}
@@ -16,143 +15,20 @@ use Rattle.text.specs.Measured.{Reads}
 use Rattle.text.proofs.ReadLaws.{readNumber-some, readText-counted, reads-text}
 use Rattle.frame.specs.Kind
 use Rattle.frame.specs.Tree.{Value, Schema, kindOf, octets}
-use Rattle.frame.specs.Readers.{readList, readOption}
-use Rattle.frame.specs.ValueFrame.{symbol, readContent, readValue, writeText, encodeValue}
+use Rattle.frame.specs.ValueFrame.{symbol, readContent, readValue, writeText}
 use Rattle.frame.specs.SchemaFrame.{readSymbols, readFormed, readSchema}
-use Rattle.frame.specs.Checks.{Spans}
-use Rattle.frame.proofs.Reading.{read-rest, bind-some, bind-inv, mapRead, map-inv, reads-first, reads-number, option-zero, option-one, option-long, option-is-one}
+use Rattle.frame.proofs.Reading.{bind-some, mapRead, map-inv, reads-first, reads-number}
 use Rattle.frame.proofs.ValueNodes.{value-there, value-content, value-kind}
 use Rattle.frame.proofs.SchemaNodes.{schema-opened}
 use Rattle.buffer.specs.Built.{Built, Wrote}
 use Rattle.buffer.specs.declared.Answer.{Answer}
-use Rattle.buffer.specs.declared.Answer.the-variants.{Accepted, Refused}
-use Rattle.symbols.specs.declared.Place.the-variants.{At, Nowhere}
-use Rattle.types.specs.Types.{position, enumAt, orDefault, validate-symbol, resolve-enum}
+use Rattle.buffer.specs.declared.Answer.the-variants.{Refused}
+use Rattle.types.specs.Types.{validate-symbol, resolve-enum}
 use Rattle.types.specs.Contract.{encoded, onRead, onBoth}
-use Rattle.symbols.specs.Search.{placeFrom, placeIn, defaultOf, resolveEnumAt}
+use Rattle.symbols.specs.Search.{resolveEnumAt}
 use Rattle.types.proofs.Contents.{enum-content}
-use Rattle.types.proofs.NodeLaws.{wrote-ok, wrote-stop}
+use Rattle.types.proofs.NodeLaws.{wrote-stop}
 use Rattle.types.proofs.PartLaws.{length-bytes}
-
--- ---- places
-
-place-some : (x : Text) (ss : List Text) (i : ℕ) → At i ≡ placeFrom 0 (position x ss) → position x ss ≡ some i
-unfolding placeFrom
-place-some x ss i e = go (position x ss) e
-  where
-    go : (o : Option ℕ) → At i ≡ placeFrom 0 o → o ≡ some i
-    go none e = let z : _≡_ {A = ℕ} 0 1 = cc in absurd (omega arith)
-    go (some j) e = let q : i ≡ 0 + j = cc in ap some (sym (q ∙ zero-add j))
-
-place-none : (x : Text) (ss : List Text) → Nowhere ≡ placeFrom 0 (position x ss) → position x ss ≡ none
-unfolding placeFrom
-place-none x ss e = go (position x ss) e
-  where
-    go : (o : Option ℕ) → Nowhere ≡ placeFrom 0 o → o ≡ none
-    go none e = refl
-    go (some j) e = let z : _≡_ {A = ℕ} 0 1 = cc in absurd (omega arith)
-
--- ---- symbols and default
-
--- what was read of them
-record Symbols (s : List ℕ) : Type 0 where
-  ss : List Text
-  u : List ℕ
-  d : Option Text
-  r : List ℕ
-  list : readList readText s ≡ some (ss, u)
-  option : readOption readText u ≡ some (d, r)
-  all : readSymbols s ≡ some ((ss, d), r)
-
-symbols-are : (s : List ℕ) → Reads (readSymbols s) → Symbols s
-unfolding readSymbols Reads
-symbols-are s p =
-    let w = bind-inv (readList readText s) _ (p .0, p .1 .0) (p .1 .1) in
-    let v = bind-inv (readOption readText (w .0 .1)) _ (p .0, p .1 .0) (w .1 .1) in
-    record { ss = w .0 .0; u = w .0 .1; d = v .0 .0; r = v .0 .1; list = w .1 .0; option = v .1 .0; all = p .1 .1 ∙ sym (v .1 .1) }
-
-pub symbols-list : (s : List ℕ) → Reads (readSymbols s) → Reads (readList readText s)
-unfolding readSymbols
-symbols-list s p = reads-first (readList readText s) _ p
-
-module _ (s t o : List ℕ) (p : Reads (readSymbols s)) where
-  -- a symbol that is there
-  pub symbol-found : (i n : ℕ) → At i ≡ placeIn 0 t (readList readText s) → Built (Kind.Enum ∷ (bytesOf 4 i ++ writeText t)) o n
-      → Wrote (onRead (λ e. encoded (validate-symbol (e .0) (e .1) t)) (readSymbols s)) o (Accepted n)
-  unfolding onRead orDefault enumAt encoded encodeValue placeIn
-  symbol-found i n e w =
-      let y = symbols-are s p in
-      let q : position t (y .ss) ≡ some i = place-some t (y .ss) i (e ∙ ap (placeIn 0 t) (y .list)) in
-      wrote-ok _ _ o n (rw (y .all) (rw q)) w
-
-  -- a symbol that is not: the default
-  pub symbol-missing : (a : Answer) → Nowhere ≡ placeIn 0 t (readList readText s) → Wrote (onRead (λ e. encoded (defaultOf e)) (readSymbols s)) o a
-      → Wrote (onRead (λ e. encoded (validate-symbol (e .0) (e .1) t)) (readSymbols s)) o a
-  unfolding onRead defaultOf enumAt placeIn
-  symbol-missing a e w =
-      let y = symbols-are s p in
-      let q : position t (y .ss) ≡ none = place-none t (y .ss) (e ∙ ap (placeIn 0 t) (y .list)) in
-      rw (y .all) (rw q (rw (y .all) at w))
-
--- ---- the flag and the default
-
-module _ (s : List ℕ) (at : ℕ) (p : Reads (readSymbols s)) (v : Spans (readList readText s) s at) where
-  option-reads : Reads (readOption readText (drop at s))
-  unfolding Spans Reads
-  option-reads =
-      let y = symbols-are s p in
-      (y .d, (y .r, ap (readOption readText) (read-rest (sym (v .1 .1) ∙ y .list)) ∙ y .option))
-
-  symbols-then : (d : Option Text) (r : List ℕ) → readOption readText (drop at s) ≡ some (d, r) → (b : List Text) × ((readList readText s ≡ some (b, drop at s)) × (readSymbols s ≡ some ((b, d), r)))
-  unfolding Spans readSymbols _>>=_
-  symbols-then d r e = (v .1 .0, (v .1 .1, rw (v .1 .1) (rw e)))
-
-  flag-at : getD (drop at s) 0 0 ≡ getD s at 0
-  flag-at = getD-drop at s 0 0 ∙ ap (λ (n : ℕ). getD s n 0) (add-zero at)
-
-  pub flag-there : at < length s
-  flag-there = omega (arith, option-long readText (drop at s) option-reads, length-drop at s)
-
-  pub no-default : (o : List ℕ) → getD s at 0 ≡ 0 → Wrote (onRead (λ e. encoded (defaultOf e)) (readSymbols s)) o (Refused 15)
-  unfolding onRead defaultOf orDefault encoded
-  no-default o e =
-      let q = symbols-then none _ (option-zero readText (drop at s) (option-long readText (drop at s) option-reads) (flag-at ∙ e)) in
-      wrote-stop _ o 15 (rw (q .1 .1))
-
-  module _ (f : getD s at 0 ≡ 0 → ⊥) where
-    some-opened : readOption readText (drop at s) ≡ mapRead some (readText (drop (at + 1) s))
-    some-opened =
-        option-one readText (drop at s) (option-long readText (drop at s) option-reads) (option-is-one readText (drop at s) option-reads (λ e. f (sym flag-at ∙ e)))
-        ∙ ap (λ (l : List ℕ). mapRead some (readText l)) (drop-drop 1 at s)
-
-    default-text : Reads (readText (drop (at + 1) s))
-    default-text = reads-first (readText (drop (at + 1) s)) _ (subst Reads some-opened option-reads)
-
-    pub default-counted : Reads (readCounted (drop (at + 1) s))
-    default-counted = reads-text (drop (at + 1) s) default-text
-
-    module _ (t r : List ℕ) (e : readCounted (drop (at + 1) s) ≡ some (t, r)) where
-      default-is : readOption readText (drop at s) ≡ some (some t, r)
-      unfolding Reads _>>=_
-      default-is =
-          let q = default-text in
-          let z : readText (drop (at + 1) s) ≡ some (t, r) = q .1 .1 ∙ sym (readText-counted (drop (at + 1) s) (q .0) (q .1 .0) (q .1 .1) .0) ∙ e in
-          some-opened ∙ rw z
-
-      pub default-found : (o : List ℕ) (i n : ℕ) → At i ≡ placeIn 0 t (readList readText s) → Built (Kind.Enum ∷ (bytesOf 4 i ++ writeText t)) o n
-          → Wrote (onRead (λ e. encoded (defaultOf e)) (readSymbols s)) o (Accepted n)
-      unfolding onRead defaultOf orDefault enumAt encoded encodeValue placeIn
-      default-found o i n g w =
-          let q = symbols-then (some t) r default-is in
-          let k : position t (q .0) ≡ some i = place-some t (q .0) i (g ∙ ap (placeIn 0 t) (q .1 .0)) in
-          wrote-ok _ _ o n (rw (q .1 .1) (rw k)) w
-
-      pub default-missing : (o : List ℕ) → Nowhere ≡ placeIn 0 t (readList readText s) → Wrote (onRead (λ e. encoded (defaultOf e)) (readSymbols s)) o (Refused 15)
-      unfolding onRead defaultOf orDefault enumAt encoded placeIn
-      default-missing o g =
-          let q = symbols-then (some t) r default-is in
-          let k : position t (q .0) ≡ none = place-none t (q .0) (g ∙ ap (placeIn 0 t) (q .1 .0)) in
-          wrote-stop _ o 15 (rw (q .1 .1) (rw k))
 
 -- ---- the schema's node
 

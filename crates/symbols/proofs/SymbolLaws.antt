@@ -1,115 +1,114 @@
--- Texts one after another: one more of them, and the search for the first that is the same as a given one.
+-- The search for the first of some texts that is the same as a given one, text by text.
 use Prim.Native.Nat.{ℕ, suc, _+_, _-_, _≤_, _<_}
-use mathlib.Core.Path.{_≡_, refl, sym, ap, _∙_, subst}
+use mathlib.Core.Path.{_≡_, refl, sym, ap, _∙_}
 use mathlib.Core.List.{List, _∷_}
 use mathlib.Core.Option.{Option, none, some}
 use mathlib.Core.Bool.{true, false}
 use native.Mathlib.Omega.{arith}
-use native.Mathlib.Numerals.{add-one}
-use native.Mathlib.Nat.{add-zero}
-use borrow.Author.Tests.{eq-eqb, ne-eqb}
-use lib.ListN.{length, getD, drop, length-drop}
-use lib.Seq.{drop-drop}
+use native.Mathlib.Nat.{zero-add, add-zero}
+use lib.ListN.{length, drop}
 use Rattle.number.specs.Number.{numberAt}
 use Rattle.text.specs.Text.{Text, same}
-use Rattle.text.specs.Read.{Read, _>>=_, readCounted, readText}
+use Rattle.text.specs.Read.{readCounted, readText}
 use Rattle.text.specs.Measured.{Reads}
-use Rattle.text.proofs.TextLaws.{same-at, same-end}
 use Rattle.text.proofs.ReadLaws.{reads-text, readText-counted}
-use Rattle.frame.specs.Readers.{readMany, readList}
-use Rattle.frame.proofs.Reading.{bind-some, reads-eq, reads-first}
-use Rattle.frame.proofs.Counting.{many-suc, list-many, reads-list}
-use Rattle.symbols.specs.declared.Place.{Place}
-use Rattle.symbols.specs.declared.Place.the-variants.{At, Nowhere}
+use Rattle.frame.specs.Readers.{readList}
+use Rattle.frame.specs.Checks.{Spans}
+use Rattle.frame.proofs.Reading.{read-what}
+use Rattle.frame.proofs.Measuring.{spans-some}
+use Rattle.frame.proofs.Counting.{list-many, reads-list, First, Walking, walking-start, walking-step, walking-end, Left, left-start, left-first, left-reads, left-step, left-end}
 use Rattle.types.specs.Types.{position, next-place}
-use Rattle.symbols.specs.Search.{placeFrom, placeIn}
 
--- ---- one text of many
+-- ---- a place counted from i on
 
--- the text t in front of the texts that are left
-pub record NextText (s : List ℕ) (at left : ℕ) (t : Text) : Type 0 where
-  pub inside : at + (2 + length t) ≤ length s
-  pub rest : Reads (readMany readText (left - 1) (drop (at + (2 + length t)) s))
-  pub joins : readMany readText left (drop at s) ≡ (readMany readText (left - 1) (drop (at + (2 + length t)) s) >>= (λ x. some (t ∷ x .0, x .1)))
+pub later : ℕ → Option ℕ → Option ℕ
+later i none = none
+later i (some j) = some (i + j)
+
+later-zero : (o : Option ℕ) → o ≡ later 0 o
+unfolding later
+later-zero none = refl
+later-zero (some j) = ap some (sym (zero-add j))
+
+later-next : (i : ℕ) (o : Option ℕ) → later i (next-place o) ≡ later (i + 1) o
+unfolding later next-place
+later-next i none = refl
+later-next i (some j) = let e : i + suc j ≡ i + 1 + j = omega arith in ap some e
+
+module _ (i : ℕ) (x t : Text) (ts : List Text) where
+  place-here : same t x ≡ true → later i (position x (t ∷ ts)) ≡ some i
+  unfolding later position
+  place-here h = rw h (ap some (add-zero i))
+
+  place-on : same t x ≡ false → later i (position x (t ∷ ts)) ≡ later (i + 1) (position x ts)
+  unfolding position
+  place-on h = rw h (later-next i (position x ts))
+
+-- ---- the search
 
 -- what the part from a place on gives back as a text
 abbrev pub Content : List ℕ → Text → Type 0
 Content u t = (readCounted u ≡ some (t, drop (2 + length t) u)) × ((2 + length t ≤ length u) × (length t < 65536))
 
-module _ (s : List ℕ) (at : ℕ) (h : at ≤ length s) (left : ℕ) (g : 0 < left) (p : Reads (readMany readText left (drop at s))) where
-  first-text : Reads (readText (drop at s))
-  first-text = reads-first (readText (drop at s)) _ (reads-eq _ _ (many-suc readText left (drop at s) g) p)
+-- what holds whenever the next text is looked at: `left` of them stand from `at` on, and the place of x is its place among these
+pub record Searching (s x : List ℕ) (left at i : ℕ) : Type 0 where
+  pub walk : Walking readText s at left
+  pub small : i + left < 65536
+  pub look : Left (readList readText s) readText (position x) (λ l. later i (position x l)) s at left
 
-  pub text-counted : (u : List ℕ) → u ≡ drop at s → Reads (readCounted u)
-  text-counted u e = rw e (reads-text (drop at s) first-text)
+-- where x stands among the texts of s
+abbrev pub Stands : List ℕ → Text → Option ℕ → Type 0
+Stands s x o = (l : List Text) (r : List ℕ) → readList readText s ≡ some (l, r) → position x l ≡ o
 
-  pub next-text : (u : List ℕ) (t : Text) → u ≡ drop at s → Content u t → NextText s at left t
-  unfolding Reads
-  next-text u t e k =
-      let c : Content (drop at s) t = subst (λ (y : List ℕ). Content y t) e k in
-      let f = first-text in
-      let r : drop (2 + length t) (drop at s) ≡ drop (at + (2 + length t)) s = drop-drop (2 + length t) at s in
-      let q : readText (drop at s) ≡ some (t, drop (at + (2 + length t)) s) = f .1 .1 ∙ sym (readText-counted (drop at s) (f .0) (f .1 .0) (f .1 .1) .0) ∙ c .0 ∙ ap (λ (y : List ℕ). some (t, y)) r in
-      let j = many-suc readText left (drop at s) g ∙ bind-some (readText (drop at s)) _ _ _ q in
-      record { inside = omega (arith, c .1 .0, length-drop at s); rest = reads-first (readMany readText (left - 1) (drop (at + (2 + length t)) s)) _ (reads-eq _ _ j p); joins = j }
+pub search-starts : (s x : List ℕ) (left : ℕ) → Reads (readList readText s) → left ≡ numberAt s 0 2 → left < 65536 → Searching s x left 2 0
+search-starts s x left p e l =
+    let h = reads-list readText s p in
+    record {
+      walk = walking-start readText s left p e;
+      small = omega arith;
+      look = left-start _ readText (position x) _ s 2 left h (rw e (list-many readText s h)) p (λ l. later-zero (position x l));
+    }
 
--- ---- the search
+module _ {s x : List ℕ} {left at i : ℕ} (v : Searching s x left at i) where
+  -- a text is left
+  module _ (g : 0 < left) where
+    pub search-counted : Reads (readCounted (drop at s))
+    search-counted = reads-text (drop at s) (left-reads _ readText _ _ s at left (v .look) g)
 
-next-from : (i : ℕ) (o : Option ℕ) → placeFrom i (next-place o) ≡ placeFrom (i + 1) o
-unfolding placeFrom next-place
-next-from i none = refl
-next-from i (some j) = let e : i + suc j ≡ i + 1 + j = omega arith in ap At e
+    abbrev first : First readText left (drop at s) (v .look .rest) (v .look .after)
+    first = left-first _ readText _ _ s at left (v .look) g
 
-module _ (i : ℕ) (x t : Text) (m y : Read (List Text)) (e : m ≡ (y >>= (λ z. some (t ∷ z .0, z .1)))) (p : Reads y) where
-  pub place-here : same t x ≡ true → At i ≡ placeIn i x m
-  unfolding placeIn placeFrom position _>>=_ Reads
-  place-here h = sym (rw (e, p .1 .1, h) (ap At (add-zero i)))
+    module _ {t : Text} (k : Content (drop at s) t) where
+      text-here : readText (drop at s) ≡ some (t, drop (2 + length t) (drop at s))
+      text-here = first .first ∙ sym (readText-counted (drop at s) (first .item) (first .behind) (first .first) .0) ∙ k .0
 
-  pub place-on : same t x ≡ false → placeIn i x m ≡ placeIn (i + 1) x y
-  unfolding placeIn position _>>=_ Reads
-  place-on h = rw (e, p .1 .1, h) (next-from i (position x (p .0)))
+      text-spans : Spans (readText (drop at s)) (drop at s) (2 + length t)
+      text-spans = spans-some _ _ _ t (k .1 .0) text-here
 
-module _ (s x : List ℕ) where
-  abbrev Whole : Place
-  Whole = placeIn 0 x (readList readText s)
+      item-same : same (first .item) x ≡ same t x
+      item-same = ap (λ y. same y x) (read-what (sym (first .first) ∙ text-here))
 
-  -- what holds whenever the next text is looked at
-  abbrev pub Searching : ℕ → ℕ → ℕ → Type 0
-  Searching left at i =
-      (at ≤ length s) × ((i + left < 65536) × (Reads (readMany readText left (drop at s)) × (placeIn i x (readMany readText left (drop at s)) ≡ Whole)))
+      walked : Walking readText s (at + (2 + length t)) (left - 1)
+      walked = walking-step readText s at left (v .walk) (2 + length t) g text-spans
 
-  pub search-starts : (left : ℕ) → Reads (readList readText s) → left ≡ numberAt s 0 2 → left < 65536 → Searching left 2 0
-  search-starts left p e l =
-      let h = reads-list readText s p in
-      let q : readList readText s ≡ readMany readText left (drop 2 s) = rw e (list-many readText s h) in
-      (h, (omega arith, (subst Reads q p, ap (placeIn 0 x) (sym q))))
+      pub search-inside : at + (2 + length t) ≤ length s
+      search-inside = walked .inside
 
-  module _ (left at i : ℕ) (u : List ℕ) (t : Text) (v : Searching left at i) (g : 0 < left) (e : u ≡ drop at s) (k : Content u t) where
-    next : NextText s at left t
-    next = next-text s at (v .0) left g (v .1 .1 .0) u t e k
+      pub search-goes : same t x ≡ false → Searching s x (left - 1) (at + (2 + length t)) (i + 1)
+      search-goes h = record {
+        walk = walked;
+        small = omega (arith, v .small);
+        look = left-step _ readText _ _ s at left (v .look) (λ l. later (i + 1) (position x l)) g (2 + length t) text-spans (place-on i x _ _ (item-same ∙ h));
+      }
 
-    pub search-inside : at + (2 + length t) ≤ length s
-    search-inside = next .inside
+      pub search-found : same t x ≡ true → Stands s x (some i)
+      search-found h l r q = v .look .tells l r q ∙ ap (λ y. later i (position x y)) (first .cons) ∙ place-here i x _ _ (item-same ∙ h)
 
-    pub search-goes : same t x ≡ false → Searching (left - 1) (at + (2 + length t)) (i + 1)
-    search-goes h =
-        (next .inside, (omega (arith, v .1 .0), (next .rest, sym (place-on i x _ _ _ (next .joins) (next .rest) h) ∙ v .1 .1 .1)))
+  -- no text is left
+  module _ (g : left ≤ 0) where
+    pub search-missed : Stands s x none
+    unfolding later position
+    search-missed l r q = left-end _ readText _ _ s at left (v .look) g l r q
 
-    pub search-found : same t x ≡ true → At i ≡ Whole
-    search-found h = place-here i x _ _ _ (next .joins) (next .rest) h ∙ v .1 .1 .1
-
-  pub search-ends : (left at i : ℕ) → Searching left at i → left ≡ 0 → Nowhere ≡ Whole
-  unfolding readMany placeIn placeFrom position
-  search-ends left at i v e = rw e at (v .1 .1 .1)
-
--- ---- the comparison, byte by byte
-
-module _ (t x : List ℕ) (j : ℕ) (v : same (drop j t) (drop j x) ≡ same t x) where
-  pub all-same : length t ≡ j → length x ≡ j → same t x ≡ true
-  all-same a b = sym v ∙ same-end t x j (omega arith) (omega arith)
-
-  pub one-differs : j < length t → j < length x → (getD t j 0 ≡ getD x j 0 → ⊥) → same t x ≡ false
-  one-differs a b f = sym v ∙ same-at t x j a b ∙ rw (ne-eqb (getD t j 0) (getD x j 0) f)
-
-  pub one-same : j < length t → j < length x → getD t j 0 ≡ getD x j 0 → same (drop (j + 1) t) (drop (j + 1) x) ≡ same t x
-  one-same a b e = rw add-one (sym (same-at t x j a b ∙ rw (eq-eqb (getD t j 0) (getD x j 0) e)) ∙ v)
+    pub search-spans : Spans (readList readText s) s at
+    search-spans = walking-end readText s at left (v .walk) g

@@ -1,28 +1,68 @@
 -- What the search for a symbol answers, and `resolve_enum` at an Enum schema that was read.
-use Prim.Native.Nat.{ℕ, _+_}
-use mathlib.Core.List.{List}
+use Prim.Native.Nat.{ℕ, zero, suc}
+use mathlib.Core.Path.{_≡_}
+use mathlib.Core.List.{List, []}
 use mathlib.Core.Option.{Option, none, some}
-use Rattle.base.specs.Base.{stop}
+use lib.Dec.{eqb}
+use lib.ListN.{drop}
+use Rattle.base.specs.Base.{if_then_else_, stop}
 use Rattle.text.specs.Text.{Text}
-use Rattle.text.specs.Read.{Read}
+use Rattle.text.specs.Read.{Read, readCounted}
 use Rattle.frame.specs.Tree.{Value, Schema}
-use Rattle.types.specs.Types.{Outcome, position, orDefault, resolve-enum}
+use Rattle.types.specs.Types.{Outcome, position, resolve-enum}
 use Rattle.symbols.specs.declared.Place.{Place}
-use Rattle.symbols.specs.declared.Place.the-variants.{At, Nowhere}
+use Rattle.symbols.specs.declared.Place.the-variants.{Symbol, Default, Nowhere}
 
--- a place counted from i on
-unfoldable pub placeFrom : ℕ → Option ℕ → Place
-placeFrom i none = Nowhere
-placeFrom i (some j) = At (i + j)
+-- ---- the place of a symbol or of the default
 
--- the first place of a text among texts that were read, counted from i on
-unfoldable pub placeIn : ℕ → Text → Read (List Text) → Place
-placeIn i x none = Nowhere
-placeIn i x (some l) = placeFrom i (position x (l .0))
+unfoldable pub defaultAt : Option ℕ → Place
+defaultAt none = Nowhere
+defaultAt (some i) = Default i
 
--- the default, where there is one
-unfoldable pub defaultOf : List Text × Option Text → Outcome
-defaultOf e = orDefault (e .0) (e .1) (stop 15)
+-- the place of the default, where there is one
+unfoldable pub defaultPlace : List Text → Option Text → Place
+defaultPlace ss none = Nowhere
+defaultPlace ss (some d) = defaultAt (position d ss)
+
+unfoldable pub symbolOr : Place → Option ℕ → Place
+symbolOr p none = p
+symbolOr p (some i) = Symbol i
+
+-- the first place of a symbol, or else that of the default: `validate_symbol` without the values
+unfoldable pub placeOf : List Text → Option Text → Text → Place
+placeOf ss d t = symbolOr (defaultPlace ss d) (position t ss)
+
+-- the same of symbols and a default that were read
+unfoldable pub placeIn : Text → Read (List Text × Option Text) → Place
+placeIn t none = Nowhere
+placeIn t (some e) = placeOf (e .0 .0) (e .0 .1) t
+
+-- ---- the rounds of the search
+
+-- the bytes that were read
+unfoldable pub bytesRead : Read (List ℕ) → List ℕ
+bytesRead none = []
+bytesRead (some x) = x .0
+
+-- what a round looks for: at 0 the symbol, and elsewhere the text that starts there
+unfoldable pub soughtIn : List ℕ → Text → ℕ → Text
+soughtIn s t from = if eqb from 0 then t else bytesRead (readCounted (drop from s))
+
+-- what such a round finds at a place
+unfoldable pub placed : ℕ → ℕ → Place
+placed zero i = Symbol i
+placed (suc n) i = Default i
+
+-- the default of symbols that were read
+unfoldable pub defaultIn : Read (List Text × Option Text) → Option Text
+defaultIn none = none
+defaultIn (some e) = e .0 .1
+
+-- there is one
+unfoldable pub Defaulted : Read (List Text × Option Text) → Type 0
+Defaulted x = (d : Text) × (defaultIn x ≡ some d)
+
+-- ---- the resolution
 
 -- resolve_enum at an Enum schema; no other schema comes here
 unfoldable pub resolveEnumAt : Schema → Value → Outcome

@@ -6,59 +6,75 @@ use frame::texts_len;
 use octets::content;
 ghost use mathlib.Core.Path.{_≡_};
 ghost use mathlib.Core.List.{_∷_, _++_};
+ghost use mathlib.Core.Option.{some};
 ghost use Prim.Native.Nat.{_<_};
-ghost use lib.ListN.{length, getD};
+ghost use lib.ListN.{length, getD, drop};
 ghost use Rattle.number.specs.Number.{bytesOf};
+ghost use Rattle.text.specs.Text.{same};
 ghost use Rattle.text.specs.Measured.{Reads};
-ghost use Rattle.text.specs.Read.{readText};
+ghost use Rattle.text.specs.Read.{readCounted};
 ghost use Rattle.frame.specs.Kind;
-ghost use Rattle.frame.specs.Readers.{readList};
 ghost use Rattle.frame.specs.ValueFrame.{readValue, writeText};
 ghost use Rattle.frame.specs.SchemaFrame.{readSymbols, readSchema};
 ghost use Rattle.buffer.specs.Built.{Built, Wrote};
 ghost use Rattle.types.specs.Types.{validate-symbol};
 ghost use Rattle.types.specs.Contract.{encoded, onRead, onBoth};
-ghost use Rattle.symbols.specs.Search.{placeIn, defaultOf, resolveEnumAt};
+ghost use Rattle.symbols.specs.Search.{placeIn, soughtIn, placed, defaultIn, Defaulted, resolveEnumAt};
 
-// Where a text stands among others.
+// What the search comes to: the place of the symbol, that of the default, or neither.
 pub enum Place {
-    At(u16),
+    Symbol(u16),
+    Default(u16),
     Nowhere,
 }
 
-// The first place of a text among a count and that many texts.
-fn position(s: &[u8], x: &[u8]) -> Place
-    requires { ⌜ Reads (readList readText (now s)) ⌝ }
-    ensures { λ r. ⌜ r ≡ placeIn 0 (now (x .entry)) (readList readText (now (s .entry))) ⌝ }
+// Whether a word is what a round looks for: the symbol at first, and then the default, whose text starts at `from`.
+fn is_sought(s: &[u8], t: &[u8], from: usize, word: &[u8]) -> bool
+    requires { ⌜ ((from ≡ 0 → ⊥) → Reads (readCounted (drop from (now s)))) ⌝ }
+    ensures { λ r. ⌜ r ≡ same (now (word .entry)) (soughtIn (now (s .entry)) (now (t .entry)) from) ⌝ }
 {
-    let mut left = number::read2(s, 0);
-    let mut at: usize = 2;
-    let mut i: u16 = 0;
+    if from == 0 {
+        return text::same(word, t);
+    }
+    text::same(word, text::content(&s[from..]))
+}
+
+// What a round has found at a place.
+fn hit(from: usize, i: u16) -> Place
+    ensures { λ r. ⌜ r ≡ placed from i ⌝ }
+{
+    if from == 0 {
+        return Place::Symbol(i);
+    }
+    Place::Default(i)
+}
+
+// The first place of a symbol among the schema's or, where it stands nowhere, that of the default.
+fn position(s: &[u8], t: &[u8]) -> Place
+    requires { ⌜ Reads (readSymbols (now s)) ⌝ }
+    ensures { λ r. ⌜ r ≡ placeIn (now (t .entry)) (readSymbols (now (s .entry))) ⌝ }
+{
+    let mut from: usize = 0;
     let found = 'search: loop {
-        if left == 0 {
+        let mut left = number::read2(s, 0);
+        let mut at: usize = 2;
+        let mut i: u16 = 0;
+        while 0 < left {
+            let word = text::content(&s[at..]);
+            if is_sought(s, t, from, word) {
+                break 'search hit(from, i);
+            }
+            at += 2 + word.len();
+            i += 1;
+            left -= 1;
+        }
+        if 0 < from {
             break Place::Nowhere;
         }
-        let t = text::content(&s[at..]);
-        let here = i;
-        at += 2 + t.len();
-        i += 1;
-        left -= 1;
-        let mut j = 0;
-        loop {
-            if j == t.len() {
-                if j == x.len() {
-                    break 'search Place::At(here);
-                }
-                continue 'search;
-            }
-            if j == x.len() {
-                continue 'search;
-            }
-            if t[j] != x[j] {
-                continue 'search;
-            }
-            j += 1;
+        if s[at] == 0 {
+            break Place::Nowhere;
         }
+        from = at + 1;
     };
     found
 }
@@ -82,21 +98,13 @@ fn put_enum(out: &mut [u8], i: u16, t: &[u8]) -> usize
     buffer::append(out, at, t)
 }
 
-// The default at its place, where the symbols have it.
-fn enum_default(s: &[u8], out: &mut [u8]) -> Answer
-    requires { ⌜ Reads (readSymbols (now s)) ⌝ }
-    ensures { λ r. ⌜ Wrote (onRead (λ e. encoded (defaultOf e)) (readSymbols (now (s .entry)))) (now (out .exit)) r ⌝ }
+// The default's text, where there is one.
+fn default_text(s: &[u8]) -> &[u8]
+    requires { ⌜ Defaulted (readSymbols (now s)) ⌝ }
+    ensures { λ r. ⌜ (defaultIn (readSymbols (now (s .entry))) ≡ some (now r)) × (length (now r) < 65536) ⌝ }
 {
-    let at = texts_len(s);
-    if s[at] == 0 {
-        return Answer::Refused(refusal::SYMBOL_UNKNOWN);
-    }
-    let from = at + 1;
-    let d = text::content(&s[from..]);
-    match position(s, d) {
-        Place::At(i) => Answer::Accepted(put_enum(out, i, d)),
-        Place::Nowhere => Answer::Refused(refusal::SYMBOL_UNKNOWN),
-    }
+    let from = texts_len(s) + 1;
+    text::content(&s[from..])
 }
 
 // A symbol at its place, or else the default.
@@ -105,8 +113,9 @@ fn enum_of(s: &[u8], t: &[u8], out: &mut [u8]) -> Answer
     ensures { λ r. ⌜ Wrote (onRead (λ e. encoded (validate-symbol (e .0) (e .1) (now (t .entry)))) (readSymbols (now (s .entry)))) (now (out .exit)) r ⌝ }
 {
     match position(s, t) {
-        Place::At(i) => Answer::Accepted(put_enum(out, i, t)),
-        Place::Nowhere => enum_default(s, out),
+        Place::Symbol(i) => Answer::Accepted(put_enum(out, i, t)),
+        Place::Default(i) => Answer::Accepted(put_enum(out, i, default_text(s))),
+        Place::Nowhere => Answer::Refused(refusal::SYMBOL_UNKNOWN),
     }
 }
 

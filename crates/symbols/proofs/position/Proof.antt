@@ -1,100 +1,93 @@
--- The texts are passed one after another, each compared byte by byte (`Searching`).
+-- The outer loop's rounds look for the symbol and then for the default (`Round`), and the inner loop passes the symbols (`Searching`).
 use native.Mathlib.Omega.{arith}
-use mathlib.Core.Path.{_≡_, refl}
-use Prim.Native.Nat.{_-_, _≤_}
-use lib.ListN.{length, drop}
+use mathlib.Core.Path.{sym, _∙_}
+use Prim.Native.Nat.{_-_}
 use borrow.Author.Needs.{needs}
 use borrow.Rule.Slice.PartAt.{part-to-end}
-use Rattle.text.specs.Text.{same}
-use Rattle.text.proofs.TextLaws.{same-length}
 use Rattle.frame.proofs.Counting.{reads-list}
-use Rattle.symbols.proofs.SymbolLaws.{Searching, search-starts, text-counted, search-inside, search-goes, search-found, search-ends, all-same, one-differs, one-same}
+use Rattle.symbols.specs.Search.{soughtIn}
+use Rattle.symbols.proofs.SymbolLaws.{Searching, search-starts, search-counted, search-inside, search-goes, search-found, search-missed, search-spans}
+use Rattle.symbols.proofs.RoundLaws.{symbols-list, flag-there, Round, round-first, round-found, round-last, round-only, round-goes}
 use Rattle.symbols.proofs.position.Statement.{statement}
 use Rattle.symbols.proofs.position.Tie as tie
 
 abbrev Inv-loop : tie.InvT-loop
-Inv-loop s x left at i t here j₀ j = (j ≤ length t) × ((j ≤ length x) × (same (drop j t) (drop j x) ≡ same t x))
+Inv-loop s t from left₀ at₀ i₀ left at i = Searching s (soughtIn s t from) left at i
 
 abbrev μ-loop : tie.MeasureT-loop
-μ-loop s x left at i t here j₀ j = length t - j
+μ-loop s t from left₀ at₀ i₀ left at i = left
 
 abbrev Inv-search : tie.InvT-search
-Inv-search s x left₀ at₀ i₀ left at i = Searching s x left at i
+Inv-search s t from₀ from = Round s t from
 
 abbrev μ-search : tie.MeasureT-search
-μ-search s x left₀ at₀ i₀ left at i = left
-
-read2-requires : tie.Need-read2-requires Inv-loop μ-loop Inv-search μ-search
-read2-requires c κs = omega (arith, reads-list _ (c .before .before .args .s .now) (c .before .before .pre))
+μ-search s t from₀ from = 1 - from
 
 search-holds : tie.Need-search-holds Inv-loop μ-loop Inv-search μ-search
-search-holds c = search-starts (c .before .before .before .args .s .now) (c .before .before .before .args .x .now) (c .read2 .result) (c .before .before .before .pre) (c .read2 .ensures) (omega (arith, c .read2 .ok))
+search-holds c = round-first _ _ (c .before .before .pre)
+
+read2-requires : tie.Need-read2-requires Inv-loop μ-loop Inv-search μ-search
+read2-requires c κs = omega (arith, reads-list _ _ (symbols-list _ (c .before .before .before .pre)))
+
+loop-holds : tie.Need-loop-holds Inv-loop μ-loop Inv-search μ-search
+loop-holds c = search-starts _ _ _ (symbols-list _ (c .before .before .before .before .pre)) (c .read2 .ensures) (omega (arith, c .read2 .ok))
 
 sub-content : tie.Need-sub-content Inv-loop μ-loop Inv-search μ-search
-sub-content c = omega (arith, c .before .search .inv .0)
+sub-content c = omega (arith, c .before .loop .inv .walk .inside)
 
 part-content-start : tie.Need-part-content-start Inv-loop μ-loop Inv-search μ-search
-part-content-start c = omega (arith, c .before .search .inv .0)
+part-content-start c = omega (arith, c .before .loop .inv .walk .inside)
 
 part-content-end : tie.Need-part-content-end Inv-loop μ-loop Inv-search μ-search
 part-content-end c = search needs
 
 content-requires : tie.Need-content-requires Inv-loop μ-loop Inv-search μ-search
-content-requires c κs = text-counted (c .before .before .before .before .before .before .args .s .now) (c .before .before .search .at) (c .before .before .search .inv .0) (c .before .before .search .left) (omega arith) (c .before .before .search .inv .1 .1 .0) _ (part-to-end (c .before .before .before .before .before .before .args .s .now) (c .before .before .search .at))
+content-requires c κs = rw part-to-end (search-counted (c .before .before .loop .inv) (c .before .loop-test .taken))
+
+is-sought-requires : tie.Need-is-sought-requires Inv-loop μ-loop Inv-search μ-search
+is-sought-requires c κs = c .before .before .before .before .before .search .inv .there
+
+hit-requires : tie.Need-hit-requires Inv-loop μ-loop Inv-search μ-search
+hit-requires c κs = search needs
 
 add-at : tie.Need-add-at Inv-loop μ-loop Inv-search μ-search
-add-at c = omega (arith, c .content .ensures .1 .1)
+add-at c = omega (arith, c .before .before .content .ensures .1 .1)
 
 add-at-2 : tie.Need-add-at-2 Inv-loop μ-loop Inv-search μ-search
-add-at-2 c = omega (arith, search-inside (c .before .before .before .before .before .before .before .args .s .now) (c .before .before .before .before .before .before .before .args .x .now) (c .before .before .before .search .left) (c .before .before .before .search .at) (c .before .before .before .search .i) _ _ (c .before .before .before .search .inv) (omega arith) (part-to-end (c .before .before .before .before .before .before .before .args .s .now) (c .before .before .before .search .at)) (c .content .ensures))
+add-at-2 c = let k = c .before .before in omega (arith, search-inside (k .before .before .before .loop .inv) (k .before .before .loop-test .taken) (rw part-to-end at (k .content .ensures)))
 
 add-i : tie.Need-add-i Inv-loop μ-loop Inv-search μ-search
-add-i c = omega (arith, c .before .before .before .search .inv .1 .0)
+add-i c = omega (arith, c .before .before .before .before .before .loop .inv .small)
 
 sub-left : tie.Need-sub-left Inv-loop μ-loop Inv-search μ-search
 sub-left c = omega arith
-
-loop-holds : tie.Need-loop-holds Inv-loop μ-loop Inv-search μ-search
-loop-holds c = (omega arith, (omega arith, refl))
-
-search-less : tie.Need-search-less Inv-loop μ-loop Inv-search μ-search
-search-less c = omega arith
-
-search-again : tie.Need-search-again Inv-loop μ-loop Inv-search μ-search
-search-again c = search-goes (c .before .before .before .before .before .before .before .before .before .before .args .s .now) (c .before .before .before .before .before .before .before .before .before .before .args .x .now) (c .before .before .before .before .before .before .search .left) (c .before .before .before .before .before .before .search .at) (c .before .before .before .before .before .before .search .i) _ _ (c .before .before .before .before .before .before .search .inv) (omega arith) (part-to-end (c .before .before .before .before .before .before .before .before .before .before .args .s .now) (c .before .before .before .before .before .before .search .at)) (c .before .before .before .content .ensures) (same-length _ _ (λ e. omega (arith, c .if3 .left)))
-
-search-less-2 : tie.Need-search-less-2 Inv-loop μ-loop Inv-search μ-search
-search-less-2 c = omega arith
-
-search-again-2 : tie.Need-search-again-2 Inv-loop μ-loop Inv-search μ-search
-search-again-2 c = search-goes (c .before .before .before .before .before .before .before .before .before .before .args .s .now) (c .before .before .before .before .before .before .before .before .before .before .args .x .now) (c .before .before .before .before .before .before .search .left) (c .before .before .before .before .before .before .search .at) (c .before .before .before .before .before .before .search .i) _ _ (c .before .before .before .before .before .before .search .inv) (omega arith) (part-to-end (c .before .before .before .before .before .before .before .before .before .before .args .s .now) (c .before .before .before .before .before .before .search .at)) (c .before .before .before .content .ensures) (same-length _ _ (λ e. omega (arith, c .before .if2 .left)))
-
-shared-slice-read-if5 : tie.Need-shared-slice-read-if5 Inv-loop μ-loop Inv-search μ-search
-shared-slice-read-if5 c = omega arith
-
-shared-slice-read-if5-2 : tie.Need-shared-slice-read-if5-2 Inv-loop μ-loop Inv-search μ-search
-shared-slice-read-if5-2 c = omega arith
-
-search-less-3 : tie.Need-search-less-3 Inv-loop μ-loop Inv-search μ-search
-search-less-3 c = omega arith
-
-search-again-3 : tie.Need-search-again-3 Inv-loop μ-loop Inv-search μ-search
-search-again-3 c = search-goes (c .before .before .before .before .before .before .before .before .before .before .before .before .before .args .s .now) (c .before .before .before .before .before .before .before .before .before .before .before .before .before .args .x .now) (c .before .before .before .before .before .before .before .before .before .search .left) (c .before .before .before .before .before .before .before .before .before .search .at) (c .before .before .before .before .before .before .before .before .before .search .i) _ _ (c .before .before .before .before .before .before .before .before .before .search .inv) (omega arith) (part-to-end (c .before .before .before .before .before .before .before .before .before .before .before .before .before .args .s .now) (c .before .before .before .before .before .before .before .before .before .search .at)) (c .before .before .before .before .before .before .content .ensures) (one-differs _ _ _ (c .before .before .before .before .before .loop .inv .1 .1) (omega arith) (omega arith) (c .if5 .taken))
-
-add-j : tie.Need-add-j Inv-loop μ-loop Inv-search μ-search
-add-j c = omega arith
 
 loop-less : tie.Need-loop-less Inv-loop μ-loop Inv-search μ-search
 loop-less c = omega arith
 
 loop-again : tie.Need-loop-again Inv-loop μ-loop Inv-search μ-search
-loop-again c = (omega arith, (omega arith, one-same _ _ _ (c .before .before .before .before .before .loop .inv .1 .1) (omega arith) (omega arith) (c .if5 .left)))
+loop-again c = let k = c .before .before in search-goes (k .before .before .before .loop .inv) (k .before .before .loop-test .taken) (rw part-to-end at (k .content .ensures)) (sym (c .before .is-sought .ensures) ∙ c .if1 .left)
+
+shared-slice-read-if3 : tie.Need-shared-slice-read-if3 Inv-loop μ-loop Inv-search μ-search
+shared-slice-read-if3 c = let k = c .before .before in flag-there _ _ (k .before .before .before .before .before .before .pre) (search-spans (k .before .loop .inv) (k .loop-test .left))
+
+add-from : tie.Need-add-from Inv-loop μ-loop Inv-search μ-search
+add-from c = let k = c .before .before .before in omega (arith, flag-there _ _ (k .before .before .before .before .before .before .pre) (search-spans (k .before .loop .inv) (k .loop-test .left)))
+
+search-less : tie.Need-search-less Inv-loop μ-loop Inv-search μ-search
+search-less c = omega arith
+
+search-again : tie.Need-search-again Inv-loop μ-loop Inv-search μ-search
+search-again c = let k = c .before .before .before in let v = k .before .loop .inv in let h = k .loop-test .left in round-goes (k .before .before .before .search .inv) (search-missed v h) (c .before .before .if2 .left) _ (k .before .before .before .before .before .before .pre) (search-spans v h) (c .if3 .left)
 
 returns : tie.Need-returns Inv-loop μ-loop Inv-search μ-search
-returns c = search-ends (c .before .before .before .before .before .args .s .now) (c .before .before .before .before .before .args .x .now) (c .before .search .left) (c .before .search .at) (c .before .search .i) (c .before .search .inv) (c .if1 .taken)
+returns c = let k = c .before .before .before in c .hit .ensures ∙ round-found (k .before .before .before .before .before .search .inv) (search-found (k .before .before .before .loop .inv) (k .before .before .loop-test .taken) (rw part-to-end at (k .content .ensures)) (sym (c .before .before .is-sought .ensures) ∙ c .before .if1 .taken))
 
 returns-2 : tie.Need-returns-2 Inv-loop μ-loop Inv-search μ-search
-returns-2 c = search-found (c .before .before .before .before .before .before .before .before .before .before .args .s .now) (c .before .before .before .before .before .before .before .before .before .before .args .x .now) (c .before .before .before .before .before .before .search .left) (c .before .before .before .before .before .before .search .at) (c .before .before .before .before .before .before .search .i) _ _ (c .before .before .before .before .before .before .search .inv) (omega arith) (part-to-end (c .before .before .before .before .before .before .before .before .before .before .args .s .now) (c .before .before .before .before .before .before .search .at)) (c .before .before .before .content .ensures) (all-same _ (c .before .before .before .before .before .before .before .before .before .before .args .x .now) (c .before .before .loop .j) (c .before .before .loop .inv .1 .1) (omega arith) (omega arith))
+returns-2 c = let k = c .before in round-last (k .before .before .before .search .inv) (search-missed (k .before .loop .inv) (k .loop-test .left)) (c .if2 .taken)
+
+returns-3 : tie.Need-returns-3 Inv-loop μ-loop Inv-search μ-search
+returns-3 c = let k = c .before .before .before in let v = k .before .loop .inv in let h = k .loop-test .left in round-only (k .before .before .before .search .inv) (search-missed v h) (c .before .before .if2 .left) _ (k .before .before .before .before .before .before .pre) (search-spans v h) (c .if3 .taken)
 
 pub position-spec : {M : Type 1} → statement M
 position-spec =
@@ -104,27 +97,25 @@ position-spec =
     μ-loop
     Inv-search
     μ-search
-    read2-requires
     search-holds
+    read2-requires
+    loop-holds
     sub-content
     part-content-start
     part-content-end
     content-requires
+    is-sought-requires
+    hit-requires
     add-at
     add-at-2
     add-i
     sub-left
-    loop-holds
-    search-less
-    search-again
-    search-less-2
-    search-again-2
-    shared-slice-read-if5
-    shared-slice-read-if5-2
-    search-less-3
-    search-again-3
-    add-j
     loop-less
     loop-again
+    shared-slice-read-if3
+    add-from
+    search-less
+    search-again
     returns
-    returns-2)
+    returns-2
+    returns-3)
