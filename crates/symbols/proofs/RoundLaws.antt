@@ -98,7 +98,7 @@ module _ (s : List ℕ) (at : ℕ) (p : Reads (readSymbols s)) (v : Spans (readL
 
 -- ---- the rounds
 
--- what a round that looks for what stands at `from` comes to, by what it finds: the first leaves it to the default
+-- what the round at `from` comes to by what it finds; the first, where it finds nothing, leaves it to the default
 pub turn : ℕ → Place → Option ℕ → Place
 turn zero p o = symbolOr p o
 turn (suc n) p o = defaultAt o
@@ -113,7 +113,7 @@ unfolding turn placed symbolOr defaultAt
 turn-some zero p i = refl
 turn-some (suc n) p i = refl
 
--- what holds whenever a round starts
+-- what holds whenever a round starts: what it looks for can be read, and the place is what the round comes to
 pub record Round (s t : List ℕ) (from : ℕ) : Type 0 where
   pub there : (from ≡ 0 → ⊥) → Reads (readCounted (drop from s))
   pub have : Symbols s
@@ -160,7 +160,7 @@ module _ {s t : List ℕ} {from : ℕ} (w : Round s t from) where
       zero-from : from ≡ 0
       zero-from = omega arith
 
-      -- the first leaves it to the default
+      -- the first found nothing, so that the default decides
       round-default : (d : Option Text) → defaultIn (readSymbols s) ≡ d → placeIn t (readSymbols s) ≡ defaultPlace (w .have .ss) d
       unfolding turn symbolOr defaultIn
       round-default d e =
