@@ -13,7 +13,7 @@ use Rattle.number.specs.Number.{bytesOf}
 use Rattle.text.specs.Text.{Text}
 use Rattle.text.specs.Read.{Read, _>>=_, readCounted, readText}
 use Rattle.text.specs.Measured.{Reads}
-use Rattle.text.proofs.ReadLaws.{readText-counted, reads-text, reads-counted}
+use Rattle.text.proofs.ReadLaws.{readText-counted, reads-text, textAt-counted}
 use Rattle.frame.specs.Kind
 use Rattle.frame.specs.Tree.{Value}
 use Rattle.frame.specs.Readers.{readList, readOption}
@@ -28,7 +28,7 @@ use Rattle.types.specs.Contract.{encoded, onRead}
 use Rattle.types.proofs.NodeLaws.{wrote-ok, wrote-stop}
 use Rattle.symbols.specs.declared.Place.{Place}
 use Rattle.symbols.specs.declared.Place.the-variants.{Symbol, Default, Nowhere}
-use Rattle.symbols.specs.Search.{defaultAt, defaultPlace, symbolOr, placeOf, placeIn, bytesRead, soughtIn, placed, defaultIn, Defaulted}
+use Rattle.symbols.specs.Search.{defaultAt, defaultPlace, symbolOr, placeOf, placeIn, soughtIn, placed, defaultIn, Defaulted}
 use Rattle.symbols.proofs.SymbolLaws.{Stands}
 
 -- ---- symbols and default
@@ -124,11 +124,8 @@ unfolding soughtIn
 sought-first s t from e = rw e
 
 pub sought-later : (s t : List ℕ) (from : ℕ) (x r : List ℕ) → (from ≡ 0 → ⊥) → readCounted (drop from s) ≡ some (x, r) → x ≡ soughtIn s t from
-unfolding soughtIn bytesRead
-sought-later s t from x r f e = rw (ne-eqb from 0 f, e)
-
-pub sought-inside : (s : List ℕ) (from : ℕ) → Reads (readCounted (drop from s)) → from ≤ length s
-sought-inside s from p = omega (arith, reads-counted (drop from s) p .two, length-drop from s)
+unfolding soughtIn
+sought-later s t from x r f e = rw (ne-eqb from 0 f) (sym (textAt-counted s from x r e))
 
 pub hit-symbol : (from i : ℕ) → from ≡ 0 → Symbol i ≡ placed from i
 unfolding placed

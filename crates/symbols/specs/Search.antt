@@ -1,13 +1,12 @@
 -- What the search for a symbol answers, and `resolve_enum` at an Enum schema that was read.
 use Prim.Native.Nat.{ℕ, zero, suc}
 use mathlib.Core.Path.{_≡_}
-use mathlib.Core.List.{List, []}
+use mathlib.Core.List.{List}
 use mathlib.Core.Option.{Option, none, some}
 use lib.Dec.{eqb}
-use lib.ListN.{drop}
 use Rattle.base.specs.Base.{if_then_else_, stop}
 use Rattle.text.specs.Text.{Text}
-use Rattle.text.specs.Read.{Read, readCounted}
+use Rattle.text.specs.Read.{Read, textAt}
 use Rattle.frame.specs.Tree.{Value, Schema}
 use Rattle.types.specs.Types.{Outcome, position, resolve-enum}
 use Rattle.symbols.specs.declared.Place.{Place}
@@ -39,14 +38,9 @@ placeIn t (some e) = placeOf (e .0 .0) (e .0 .1) t
 
 -- ---- the rounds of the search
 
--- the bytes that were read
-unfoldable pub bytesRead : Read (List ℕ) → List ℕ
-bytesRead none = []
-bytesRead (some x) = x .0
-
 -- what a round looks for: at 0 the symbol, and elsewhere the text that starts there
 unfoldable pub soughtIn : List ℕ → Text → ℕ → Text
-soughtIn s t from = if eqb from 0 then t else bytesRead (readCounted (drop from s))
+soughtIn s t from = if eqb from 0 then t else textAt s from
 
 -- what such a round finds at a place
 unfoldable pub placed : ℕ → ℕ → Place

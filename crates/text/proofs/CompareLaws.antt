@@ -8,7 +8,6 @@ use borrow.Author.Tests.{eqb-true, eqb-false, eq-eqb, ne-eqb}
 use lib.Dec.{T, eqb}
 use lib.ListN.{length, getD, take, drop, length-append, length-reverse, length-drop, drop-of-length-le}
 use lib.Seq.{drop-cons, split-at, length-take-le}
-use Rattle.base.specs.Base.{if_then_else_}
 use Rattle.text.specs.Text.{Text, same}
 use Rattle.text.specs.Compare.{untilDifference, looked, Looked, unequal-lengths, first-difference, no-difference}
 use Rattle.text.proofs.TextLaws.{same-refl, same→≡}

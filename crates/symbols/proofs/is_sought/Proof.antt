@@ -2,7 +2,8 @@
 use mathlib.Core.Path.{ap, _∙_}
 use borrow.Rule.Slice.PartAt.{part-to-end}
 use Rattle.text.specs.Text.{same}
-use Rattle.symbols.proofs.RoundLaws.{sought-first, sought-inside, sought-later}
+use Rattle.symbols.proofs.RoundLaws.{sought-first, sought-later}
+use Rattle.text.proofs.ReadLaws.{place-inside}
 use borrow.Author.Needs.{needs}
 use Rattle.symbols.proofs.is_sought.Statement.{statement}
 use Rattle.symbols.proofs.is_sought.Tie as tie
@@ -14,10 +15,10 @@ returns : tie.Need-returns
 returns c = c .same .ensures ∙ ap (same (c .before .before .before .before .before .args .word .now)) (sought-first (c .before .before .before .before .before .args .s .now) (c .before .before .before .before .before .args .t .now) _ (c .before .if1 .taken))
 
 sub-content : tie.Need-sub-content
-sub-content c = sought-inside _ _ (c .before .before .before .before .pre (c .if1 .left))
+sub-content c = place-inside _ _ (c .before .before .before .before .pre (c .if1 .left))
 
 part-content-start : tie.Need-part-content-start
-part-content-start c = sought-inside _ _ (c .before .before .before .before .pre (c .if1 .left))
+part-content-start c = place-inside _ _ (c .before .before .before .before .pre (c .if1 .left))
 
 part-content-end : tie.Need-part-content-end
 part-content-end c = search needs
