@@ -23,9 +23,9 @@ pub fn at_the_front(i: usize) -> String {
     format!("{i:06}_elapsed_time_in_seconds_at_the_mark")
 }
 
-/// Names of other lengths, alike as far as they go.
+/// The first letters of one text: no two have the same length, and all are alike as far as they go.
 pub fn by_lengths(i: usize) -> String {
-    "m".repeat(i + 1)
+    (0..=i).map(|k| (b'a' + ((7 * k + k / 26) % 26) as u8) as char).collect()
 }
 
 /// 200 fields with the first of these names; the record has them in another order.

@@ -8,7 +8,7 @@ use borrow.Author.Tests.{eqb-true, eqb-false, eq-eqb, ne-eqb}
 use lib.Dec.{T, eqb}
 use lib.ListN.{length, getD, take, drop, length-append, length-reverse, length-drop, drop-of-length-le}
 use lib.Seq.{drop-cons, split-at, length-take-le}
-use Rattle.text.specs.Text.{Text, same}
+use Rattle.text.specs.Text.{Text, ascii, same}
 use Rattle.text.specs.Compare.{untilDifference, looked, Looked, unequal-lengths, first-difference, no-difference}
 use Rattle.text.proofs.TextLaws.{same-refl, same→≡}
 
@@ -63,6 +63,15 @@ some-looked (x ∷ xs) (y ∷ ys) = further x y xs ys (some-looked xs ys .1)
 
 pub looked→Looked : (a b : Text) → Looked a b (looked a b)
 looked→Looked a b = let s = some-looked a b in subst (Looked a b) (Looked→looked (s .1)) (s .1)
+
+-- one of each: the end differs, the front does, the lengths do, nothing does
+pub looked-examples :
+    (looked (ascii "finish-198") (ascii "finish-199") ≡ 1)
+    × (looked (ascii "finish-198") (ascii "Finish-198") ≡ 10)
+    × (looked (ascii "sail") (ascii "sails") ≡ 0)
+    × (looked (ascii "sail") (ascii "sail") ≡ 4)
+unfolding looked untilDifference ascii
+looked-examples = (refl, refl, refl, refl)
 
 -- ---- what the comparison answers
 
