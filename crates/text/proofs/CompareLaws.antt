@@ -1,7 +1,7 @@
 -- The number of byte pairs that a comparison looks at is the one that Q-3 asks for, and there is one for any two texts.
 use Prim.Native.Nat.{ℕ, suc, _-_, _≤_, _<_}
 use mathlib.Core.Path.{_≡_, refl, sym, ap, _∙_, subst}
-use mathlib.Core.List.{List, [], _∷_, _++_, reverse, reverseAux-append, reverseAux-eq}
+use mathlib.Core.List.{[], _∷_, _++_, reverse, reverseAux-append, reverseAux-eq}
 use mathlib.Core.Bool.{Bool, true, false}
 use native.Mathlib.Omega.{arith}
 use borrow.Author.Tests.{eqb-true, eqb-false, eq-eqb, ne-eqb}
