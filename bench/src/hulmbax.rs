@@ -9,37 +9,32 @@ pub const WORKSPACE: usize = 65_536;
 /// written. -k: refused with number k.
 type Entry = unsafe extern "C" fn(*const u8, usize, *const u8, usize, *mut u8, usize, *mut u8, usize) -> i32;
 
-unsafe extern "C" {
-    fn hulmbax_resolve(
-        schema: *const u8,
-        schema_len: usize,
-        record: *const u8,
-        record_len: usize,
-        result: *mut u8,
-        result_len: usize,
-        workspace: *mut u8,
-        workspace_len: usize,
-    ) -> i32;
+/// Declares entries, which all have the same parameters.
+macro_rules! entries {
+    ($($(#[$when:meta])? $name:ident),*) => {
+        unsafe extern "C" {
+            $($(#[$when])? fn $name(
+                schema: *const u8,
+                schema_len: usize,
+                record: *const u8,
+                record_len: usize,
+                result: *mut u8,
+                result_len: usize,
+                workspace: *mut u8,
+                workspace_len: usize,
+            ) -> i32;)*
+        }
 
-    #[cfg(before)]
-    fn before_resolve(
-        schema: *const u8,
-        schema_len: usize,
-        record: *const u8,
-        record_len: usize,
-        result: *mut u8,
-        result_len: usize,
-        workspace: *mut u8,
-        workspace_len: usize,
-    ) -> i32;
+        const ENTRIES: &[Entry] = &[$($(#[$when])? $name),*];
+    };
 }
 
-/// The entry, and the one of the older archive.
-const ENTRIES: &[Entry] = &[
+// the entry, and the one of the older archive
+entries!(
     hulmbax_resolve,
     #[cfg(before)]
-    before_resolve,
-];
+    before_resolve
+);
 
 /// How many entries there are.
 pub const COUNT: usize = ENTRIES.len();

@@ -1,7 +1,8 @@
 // Program published: worked examples of public documents, a line each, run through the leaves. It echoes each line of standard
 // input and adds what the leaf gives; a line that begins with # names the document and is echoed alone. stdin has the examples,
 // and stdout what the documents say: RFC 3629 and RFC 4122 print their own answers; those of IEEE 754 and of the decimal rule
-// are worked out by exact arithmetic over whole numbers from the rules that their section names.
+// are worked out by exact arithmetic over whole numbers from the rules that their section names; the byte pairs of two names are
+// counted by hand.
 mod line;
 mod number_line;
 mod text_line;

@@ -14,6 +14,7 @@ use Rattle.symbols.specs.declared.Place.the-variants.{Symbol, Default, N
 
 -- ---- the place of a symbol or of the default
 
+-- the default, where its place is known
 unfoldable pub defaultAt : Option ℕ → Place
 defaultAt none = Nowhere
 defaultAt (some i) = Default i
@@ -23,6 +24,7 @@ unfoldable pub defaultPlace : List Text → Option Text → Place
 defaultPlace ss none = Nowhere
 defaultPlace ss (some d) = defaultAt (position d ss)
 
+-- the symbol, where its place is known, or else what is given
 unfoldable pub symbolOr : Place → Option ℕ → Place
 symbolOr p none = p
 symbolOr p (some i) = Symbol i
