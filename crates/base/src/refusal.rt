@@ -34,3 +34,8 @@ pub const NO_VARIANT: u8 = 16;
 pub const FIELD_MISSING: u8 = 17;
 
 pub const RESULT_TOO_LONG: u8 = 18;
+
+// The calendar's (docs/RULES.md, "Dates and instants").
+pub const MILLIS_ON_DATE: u8 = 26;
+
+pub const OUTSIDE_CALENDAR: u8 = 27;

@@ -1,0 +1,4 @@
+pub mod Laws
+pub mod Fast
+pub mod Over
+pub mod Later
