@@ -9,7 +9,8 @@ use lib.ListN.{length, take, drop}
 use Rattle.base.specs.Base.{if_then_else_, Result, ok, stop}
 use Rattle.uuid.specs.Rfc4122.{smallDigit}
 use Rattle.hex.specs.Hex.{decimal}
-use Rattle.hulmbax.specs.Answer.{answer, bufferAfter, workspaceSize}
+use Rattle.buffer.specs.After.{bufferAfter}
+use Rattle.hulmbax.specs.Answer.{answer, workspaceSize}
 use Rattle.hulmbax.specs.Entry.{resolvedOf}
 use Rattle.hulmbax.specs.declared.Resolved.{Resolved}
 use Rattle.hulmbax.specs.declared.Resolved.the-variants.{Accepted, Refused}

@@ -43,7 +43,7 @@ fn put_node8(out: &mut [u8], kind: u8, n: u64) -> usize
 }
 
 // A scalar as a node.
-fn put_scalar(out: &mut [u8], s: Scalar) -> usize
+pub fn put_scalar(out: &mut [u8], s: Scalar) -> usize
     ensures { λ r. ⌜ Built (encodeValue (valueOf s)) (now (out .exit)) r ⌝ }
 {
     let k = s.kind();
@@ -66,7 +66,7 @@ fn put_cast(out: &mut [u8], c: Cast) -> Answer
 }
 
 // The number or the time that a node holds.
-fn scalar_at(v: &[u8], depth: usize) -> Scalar
+pub fn scalar_at(v: &[u8], depth: usize) -> Scalar
     requires { ⌜ Reads (readValue depth (now v)) × (isScalar (getD (now v) 0 0) ≡ true) ⌝ }
     ensures { λ r. ⌜ ((w : Value) (u : List ℕ) → readValue depth (now (v .entry)) ≡ some (w, u) → r ≡ scalarOf w) ⌝ }
 {

@@ -20,7 +20,9 @@ use Rattle.avro.specs.Resolve.{resolve}
 use Rattle.avro.specs.Defaults.{defaultsShort}
 use Rattle.avro.proofs.LongDefaults.{LongDefault, long-told, long-only}
 use Rattle.avro.proofs.Refusals.{refusal-resolve}
-use Rattle.hulmbax.specs.Answer.{answer, answerFor, recordAnswer, checkedSchema, checkedValue, checkedResult, workspaceSize}
+use Rattle.frame.specs.Sound.{checkedValue}
+use Rattle.buffer.specs.After.{checkedResult}
+use Rattle.hulmbax.specs.Answer.{answer, answerFor, recordAnswer, checkedSchema, workspaceSize}
 
 -- ---- the sentences
 

@@ -16,7 +16,9 @@ use Rattle.frame.specs.Sound.{keysRise, schemaSound}
 use Rattle.avro.specs.Resolve.{resolve}
 use Rattle.avro.specs.Defaults.{defaultsShort}
 use Rattle.avro.proofs.Refusals.{refusal-resolve}
-use Rattle.hulmbax.specs.Answer.{answer, answerFor, recordAnswer, checkedSchema, checkedValue, checkedResult, workspaceSize}
+use Rattle.frame.specs.Sound.{checkedValue}
+use Rattle.buffer.specs.After.{checkedResult}
+use Rattle.hulmbax.specs.Answer.{answer, answerFor, recordAnswer, checkedSchema, workspaceSize}
 
 -- refusals from a number on, the last being 18
 abbrev From : ℕ → {A : Type 0} → Result A → Type 0

@@ -5,41 +5,20 @@ use mathlib.Core.List.{List}
 use mathlib.Core.Option.{Option, none, some}
 use mathlib.Core.Bool.{Bool, true, false}
 use native.Mathlib.Omega.{arith}
-use lib.Dec.{T, ltb, eqb}
-use lib.ListN.{length}
+use lib.Dec.{T}
 use lib.Ieee.Bits.{is-true}
 use Rattle.base.specs.Base.{if_then_else_, Result, ok, stop}
-use Rattle.text.specs.Read.{Read, _>>=_}
 use Rattle.frame.specs.Tree.{Value, Schema}
-use Rattle.frame.specs.Readers.{whole}
 use Rattle.frame.specs.ValueFrame.{decodeValue}
 use Rattle.frame.specs.SchemaFrame.{readSchema, decodeSchema}
-use Rattle.frame.specs.Sound.{keysRise, schemaSound}
 use Rattle.frame.specs.Checks.{verdict, valueVerdict, schemaVerdict}
 use Rattle.frame.specs.declared.Verdict.the-variants.{NoFrame, Unsound, Sound}
 use Rattle.avro.specs.Defaults.{defaultsShort}
 use Rattle.defaults.specs.Shortness.{SoundRead, testRead}
-use Rattle.hulmbax.specs.Answer.{checkedSchema, checkedValue}
+use Rattle.frame.specs.Sound.{keysRise, schemaSound, checkedValue}
+use Rattle.frame.proofs.Passed.{whole-reads}
+use Rattle.hulmbax.specs.Answer.{checkedSchema}
 use Rattle.hulmbax.specs.Entry.{PassedSchema, PassedValue, stopOf}
-
--- ---- whole frames
-
--- a tree that was decoded was read
-pub whole-reads : {A : Type 0} (p : List ℕ → Read A) (s : List ℕ) (a : A) → whole p s ≡ some a → (r : List ℕ) × (p s ≡ some (a, r))
-unfolding whole _>>=_
-whole-reads {A} p s a e = long (ltb 65535 (length s)) e
-  where
-    ended : (b : Bool) (x : A × List ℕ) → p s ≡ some x → (if b then some (x .0) else none) ≡ some a → (r : List ℕ) × (p s ≡ some (a, r))
-    ended true x q e = let f : x .0 ≡ a = cc in (x .1, q ∙ ap (λ (y : A). some (y, x .1)) f)
-    ended false x q e = let z : _≡_ {A = ℕ} 0 1 = cc in absurd (omega arith)
-
-    next : (o : Read A) → p s ≡ o → _>>=_ {B = A} o (λ x. if eqb (length (x .1)) 0 then some (x .0) else none) ≡ some a → (r : List ℕ) × (p s ≡ some (a, r))
-    next none q e = let z : _≡_ {A = ℕ} 0 1 = cc in absurd (omega arith)
-    next (some x) q e = ended (eqb (length (x .1)) 0) x q e
-
-    long : (b : Bool) → (if b then none else _>>=_ {B = A} (p s) (λ x. if eqb (length (x .1)) 0 then some (x .0) else none)) ≡ some a → (r : List ℕ) × (p s ≡ some (a, r))
-    long true e = let z : _≡_ {A = ℕ} 0 1 = cc in absurd (omega arith)
-    long false e = next (p s) refl e
 
 -- ---- the checks
 

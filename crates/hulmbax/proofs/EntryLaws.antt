@@ -11,7 +11,8 @@ use borrow.Author.Tests.{eqb-true}
 use lib.Ieee.Bits.{is-true, is-false}
 use Rattle.base.specs.Base.{if_then_else_, Result, ok, stop, after}
 use Rattle.frame.specs.SchemaFrame.{decodeSchema}
-use Rattle.hulmbax.specs.Answer.{answer, answerFor, recordAnswer, bufferAfter, workspaceAfter, checkedSchema, workspaceSize}
+use Rattle.buffer.specs.After.{bufferAfter}
+use Rattle.hulmbax.specs.Answer.{answer, answerFor, recordAnswer, workspaceAfter, checkedSchema, workspaceSize}
 use Rattle.hulmbax.specs.Entry.{PassedSchema, resolvedOf, stopOf}
 use Rattle.hulmbax.specs.declared.Resolved.{Resolved}
 use Rattle.hulmbax.proofs.CheckLaws.{stops}

@@ -5,17 +5,14 @@ use mathlib.Core.List.{List, _++_}
 use mathlib.Core.Option.{Option, none, some}
 use mathlib.Core.Bool.{Bool, true, false}
 use native.Mathlib.Omega.{arith}
-use lib.Dec.{T, ltb, lt→ltb}
-use lib.Arith.{le→nltb}
+use lib.Dec.{T}
 use lib.ListN.{length, take, drop}
 use lib.Seq.{length-take-le}
-use lib.Ieee.Bits.{is-true, is-false}
 use Rattle.base.specs.Base.{if_then_else_, Result, ok, stop, after}
 use Rattle.text.specs.Measured.{Reads}
 use Rattle.frame.specs.Tree.{Value, Schema}
 use Rattle.frame.specs.ValueFrame.{readValue, decodeValue, encodeValue}
 use Rattle.frame.specs.SchemaFrame.{readSchema, decodeSchema}
-use Rattle.frame.specs.Sound.{keysRise, schemaSound}
 use Rattle.buffer.specs.Built.{Built, Wrote}
 use Rattle.buffer.specs.declared.Answer.the-variants.{Accepted, Refused}
 use Rattle.types.specs.Contract.{encoded, onBoth}
@@ -23,10 +20,14 @@ use Rattle.avro.specs.Resolve.{resolve}
 use Rattle.avro.specs.Defaults.{defaultsShort}
 use Rattle.walk.specs.Contract.{Node, nodeBytes}
 use Rattle.walk.specs.declared.Walk.{Walk}
-use Rattle.hulmbax.specs.Answer.{recordAnswer, bufferAfter, checkedSchema, checkedValue, checkedResult}
+use Rattle.frame.specs.Sound.{schemaSound, checkedValue}
+use Rattle.buffer.specs.After.{bufferAfter, checkedResult}
+use Rattle.hulmbax.specs.Answer.{recordAnswer, checkedSchema}
 use Rattle.hulmbax.specs.Entry.{PassedSchema, PassedValue, resolvedOf, stopOf}
 use Rattle.hulmbax.specs.declared.Resolved.{Resolved}
-use Rattle.hulmbax.proofs.CheckLaws.{whole-reads, stops}
+use Rattle.frame.proofs.Passed.{whole-reads, passed-reads}
+use Rattle.buffer.proofs.AfterLaws.{checkedResult-over, checkedResult-short, checkedResult-fits}
+use Rattle.hulmbax.proofs.CheckLaws.{stops}
 
 -- ---- what passed
 
@@ -51,26 +52,13 @@ schema-sound-short s t e = go (decodeSchema s) refl e
     go none q e = let z : _≡_ {A = ℕ} 0 1 = cc in absurd (omega arith)
     go (some u) q e = test u (schemaSound u) (defaultsShort u) refl refl q e
 
-value-decoded : (v : List ℕ) (w : Value) → checkedValue (decodeValue v) ≡ ok w → decodeValue v ≡ some w
-unfolding checkedValue
-value-decoded v w e = go (decodeValue v) refl e
-  where
-    test : (u : Value) (b : Bool) → decodeValue v ≡ some u → (if b then ok u else stop 5) ≡ ok w → decodeValue v ≡ some w
-    test u true d e = let f : u ≡ w = cc in d ∙ ap (λ (x : Value). some x) f
-    test u false d e = let z : _≡_ {A = ℕ} 0 1 = cc in absurd (omega arith)
-
-    go : (o : Option Value) → decodeValue v ≡ o → checkedValue o ≡ ok w → decodeValue v ≡ some w
-    go none q e = let z : _≡_ {A = ℕ} 0 1 = cc in absurd (omega arith)
-    go (some u) q e = test u (keysRise u) q e
-
 module _ (s v : List ℕ) (p : PassedSchema s) (q : PassedValue v) where
   schema-reads : (r : List ℕ) × (readSchema 16 s ≡ some (p .tree, r))
   unfolding decodeSchema
   schema-reads = whole-reads (readSchema 16) s (p .tree) (schema-sound-short s (p .tree) (p .passed) .decoded)
 
   value-reads : (r : List ℕ) × (readValue 16 v ≡ some (q .tree, r))
-  unfolding decodeValue
-  value-reads = whole-reads (readValue 16) v (q .tree) (value-decoded v (q .tree) (q .passed))
+  value-reads = passed-reads v (q .tree) (q .passed)
 
   pub passed-ready : Node (record { schema = 16; value = 16 }) s v
   unfolding Reads
@@ -96,18 +84,6 @@ pub record-stopped : (t : Schema) (v o : List ℕ) (n : ℕ) → n ≡ stopOf (c
     → (Resolved.Refused n ≡ resolvedOf (recordAnswer t v (length o))) × (o ≡ bufferAfter (recordAnswer t v (length o)) o)
 unfolding resolvedOf bufferAfter recordAnswer after
 record-stopped t v o n e f = rw (stops (checkedValue (decodeValue v)) n e f) (refl, refl)
-
-checkedResult-over : (len : ℕ) (b : List ℕ) → 65535 < length b → checkedResult len b ≡ stop 18
-unfolding checkedResult
-checkedResult-over len b h = rw (is-true (ltb 65535 (length b)) (lt→ltb 65535 (length b) h))
-
-checkedResult-short : (len : ℕ) (b : List ℕ) → length b ≤ 65535 → len < length b → checkedResult len b ≡ stop 18
-unfolding checkedResult
-checkedResult-short len b h k = rw (is-false (ltb 65535 (length b)) (le→nltb 65535 (length b) h), is-true (ltb len (length b)) (lt→ltb len (length b) k))
-
-checkedResult-fits : (len : ℕ) (b : List ℕ) → length b ≤ 65535 → length b ≤ len → checkedResult len b ≡ ok b
-unfolding checkedResult
-checkedResult-fits len b h k = rw (is-false (ltb 65535 (length b)) (le→nltb 65535 (length b) h), is-false (ltb len (length b)) (le→nltb len (length b) k))
 
 -- a record that passed, by what resolution wrote and answered, under any tree that its schema passed with
 module _ (s v : List ℕ) (q : PassedValue v) (len : ℕ) (p : PassedSchema s) where

@@ -6,7 +6,8 @@ use native.Mathlib.Omega.{arith}
 use lib.ListN.{length, take, drop, replicate, length-replicate}
 use lib.Seq.{take-at, drop-at}
 use Rattle.base.specs.Base.{Result, ok, stop}
-use Rattle.hulmbax.specs.Answer.{bufferAfter, workspaceAfter}
+use Rattle.buffer.specs.After.{bufferAfter}
+use Rattle.hulmbax.specs.Answer.{workspaceAfter}
 use Rattle.hulmbax.specs.Entry.{resolvedOf}
 use Rattle.hulmbax.specs.declared.Resolved.the-variants.{Accepted, Refused}
 use Rattle.hulmbax.proofs.EntryLaws.{zeroed}

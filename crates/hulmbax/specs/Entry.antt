@@ -9,7 +9,8 @@ use Rattle.base.specs.Base.{if_then_else_, Result, ok, stop}
 use Rattle.frame.specs.Tree.{Value, Schema}
 use Rattle.frame.specs.ValueFrame.{decodeValue}
 use Rattle.frame.specs.SchemaFrame.{decodeSchema}
-use Rattle.hulmbax.specs.Answer.{checkedSchema, checkedValue}
+use Rattle.frame.specs.Sound.{checkedValue}
+use Rattle.hulmbax.specs.Answer.{checkedSchema}
 use Rattle.hulmbax.specs.declared.Resolved.{Resolved}
 use Rattle.hulmbax.specs.declared.Resolved.the-variants.{Accepted, Refused}
 

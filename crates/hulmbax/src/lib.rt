@@ -8,7 +8,10 @@ ghost use Prim.Native.Nat.{_-_};
 ghost use lib.ListN.{length};
 ghost use Rattle.frame.specs.ValueFrame.{decodeValue};
 ghost use Rattle.frame.specs.SchemaFrame.{decodeSchema};
-ghost use Rattle.hulmbax.specs.Answer.{answer, answerFor, bufferAfter, checkedSchema, checkedValue, recordAnswer, workspaceAfter};
+ghost use Rattle.frame.specs.Sound.{checkedValue};
+ghost use Rattle.buffer.specs.After.{bufferAfter, codeFor};
+ghost use Rattle.instants.specs.Frames.{civilFor, dateFor, sumFor, heldFor, heldCode};
+ghost use Rattle.hulmbax.specs.Answer.{answer, answerFor, checkedSchema, recordAnswer, workspaceAfter};
 ghost use Rattle.hulmbax.specs.Entry.{Bounded, PassedSchema, PassedValue, codeOf, resolvedOf, stopOf, usedFor};
 
 // A result of so many bytes, or the number of what stopped the record.
@@ -150,4 +153,41 @@ pub extern "C" fn hulmbax_resolve(
     ensures cleared { λ _. ⌜ now (workspace .exit) ≡ workspaceAfter (answer (now (schema .entry)) (now («record» .entry)) (length (now (result .entry))) (length (now (workspace .entry)))) (now (workspace .entry)) ⌝ }
 {
     code(resolve(schema, record, result, workspace))
+}
+
+// ---- the calendar's entries for C (docs/RULES.md, "Dates and instants"); `calendar` has them by value
+
+// The year, month and day of a Date, in the first three slots: 3, or 18 where there are fewer.
+#[no_mangle]
+pub extern "C" fn hulmbax_civil(date: i32, slots: &mut [i32]) -> i32
+    ensures answer { λ r. ⌜ r ≡ codeFor (civilFor date (length (now (slots .entry)))) ⌝ }
+    ensures contents { λ _. ⌜ now (slots .exit) ≡ bufferAfter (civilFor date (length (now (slots .entry)))) (now (slots .entry)) ⌝ }
+{
+    instants::civil(date, slots)
+}
+
+// The Date of a day, in the first slot: 1, or 27, then 18.
+#[no_mangle]
+pub extern "C" fn hulmbax_date(year: i32, month: i32, day: i32, date: &mut [i32]) -> i32
+    ensures answer { λ r. ⌜ r ≡ codeFor (dateFor year month day (length (now (date .entry)))) ⌝ }
+    ensures contents { λ _. ⌜ now (date .exit) ≡ bufferAfter (dateFor year month day (length (now (date .entry)))) (now (date .entry)) ⌝ }
+{
+    instants::date(year, month, day, date)
+}
+
+// A Duration added to an instant, both frames: the length of the sum's frame, or 5, 6, 26, 27, then 18.
+#[no_mangle]
+pub extern "C" fn hulmbax_add(instant: &[u8], duration: &[u8], result: &mut [u8]) -> i32
+    ensures answer { λ r. ⌜ r ≡ codeFor (sumFor (now (instant .entry)) (now (duration .entry)) (length (now (result .entry)))) ⌝ }
+    ensures contents { λ _. ⌜ now (result .exit) ≡ bufferAfter (sumFor (now (instant .entry)) (now (duration .entry)) (length (now (result .entry)))) (now (result .entry)) ⌝ }
+{
+    instants::add(instant, duration, result)
+}
+
+// Whether the window from opening to before closing holds an instant, all frames: 1 or 0, or 5, then 6.
+#[no_mangle]
+pub extern "C" fn hulmbax_holds(opening: &[u8], closing: &[u8], instant: &[u8]) -> i32
+    ensures { λ r. ⌜ r ≡ heldCode (heldFor (now (opening .entry)) (now (closing .entry)) (now (instant .entry))) ⌝ }
+{
+    instants::holds(opening, closing, instant)
 }

@@ -20,7 +20,9 @@ use Rattle.types.specs.Types.{Outcome, resolve-null}
 use Rattle.avro.specs.Union.{Trial, resolve-union}
 use Rattle.avro.specs.Resolve.{resolve, resolveFields, startDefault, trials, resolve-array, resolve-map, resolve-record, eachItem, eachEntry, fieldValue, lastUnder}
 use Rattle.avro.specs.Defaults.{defaultsShort}
-use Rattle.hulmbax.specs.Answer.{answer, recordAnswer, checkedSchema, checkedValue, checkedResult, bufferAfter, workspaceAfter, workspaceSize}
+use Rattle.frame.specs.Sound.{checkedValue}
+use Rattle.buffer.specs.After.{checkedResult, bufferAfter}
+use Rattle.hulmbax.specs.Answer.{answer, recordAnswer, checkedSchema, workspaceAfter, workspaceSize}
 use Rattle.hulmbax.specs.Entry.{resolvedOf}
 use Rattle.hulmbax.specs.declared.Resolved.{Resolved}
 use Rattle.frame.proofs.SoundLaws.{sound-field}

@@ -16,7 +16,9 @@ use Rattle.frame.specs.ValueFrame.{decodeValue, encodeValue}
 use Rattle.frame.specs.Sound.{keysRise, schemaSound}
 use Rattle.avro.specs.Resolve.{resolve}
 use Rattle.avro.specs.Defaults.{defaultsShort}
-use Rattle.hulmbax.specs.Answer.{answer, recordAnswer, checkedSchema, checkedValue, checkedResult, bufferAfter, workspaceSize}
+use Rattle.frame.specs.Sound.{checkedValue}
+use Rattle.buffer.specs.After.{checkedResult, bufferAfter}
+use Rattle.hulmbax.specs.Answer.{answer, recordAnswer, checkedSchema, workspaceSize}
 use Rattle.hulmbax.specs.Entry.{resolvedOf}
 use Rattle.hulmbax.specs.declared.Resolved.the-variants.{Accepted}
 use Rattle.hulmbax.proofs.Told.{ok-is, buffer-accepted}

@@ -11,7 +11,8 @@ use Rattle.number.specs.Number.{allBytes}
 use Rattle.frame.specs.Kind
 use Rattle.frame.specs.Tree.{Value, Schema, variant, noVariants, field, noFields, entry, noEntries}
 use Rattle.frame.specs.ValueFrame.{decodeValue}
-use Rattle.hulmbax.specs.Answer.{answer, bufferAfter, workspaceAfter, workspaceSize}
+use Rattle.buffer.specs.After.{bufferAfter}
+use Rattle.hulmbax.specs.Answer.{answer, workspaceAfter, workspaceSize}
 use Rattle.hulmbax.specs.Entry.{resolvedOf}
 use Rattle.hulmbax.specs.Finishes.{hex}
 use Rattle.hulmbax.specs.declared.Resolved.{Resolved}

@@ -11,7 +11,8 @@ use Rattle.frame.specs.Tree.{Value, Schema}
 use Rattle.frame.specs.ValueFrame.{decodeValue}
 use Rattle.frame.specs.SchemaFrame.{decodeSchema}
 use Rattle.frame.specs.Sound.{keysRise}
-use Rattle.hulmbax.specs.Answer.{answer, bufferAfter, workspaceAfter, workspaceSize}
+use Rattle.buffer.specs.After.{bufferAfter}
+use Rattle.hulmbax.specs.Answer.{answer, workspaceAfter, workspaceSize}
 use Rattle.hulmbax.specs.Entry.{resolvedOf}
 use Rattle.hulmbax.specs.declared.Resolved.{Resolved}
 use Rattle.hulmbax.specs.declared.Resolved.the-variants.{Accepted, Refused}

@@ -1,0 +1,3 @@
+pub mod FrameLaws
+pub mod AnswerLaws
+pub mod Theorems
