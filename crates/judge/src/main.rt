@@ -2,18 +2,12 @@
 // schema or a value, the frame in hexadecimal, and a mark: `+` for a sound frame, else the number that stops it; or it begins with
 // `#` and says something. Each line whose frame has another mark is named, and at the end both are counted.
 use frame::Verdict;
-use streams::output::put;
-use streams::output::put_decimal;
+use streams::tally;
+use streams::tally::Tally;
+use streams::tally::compared;
+use streams::tally::passed_over;
 ghost use mathlib.Core.Path.{_≡_};
 ghost use Rattle.judge.specs.Mark.{schemaMark, valueMark, markOf};
-
-// The lines read, the frames compared, those that differ, and whether every write so far went through.
-struct Tally {
-    line: u64,
-    compared: u64,
-    differ: u64,
-    ok: bool,
-}
 
 fn schema_mark(v: Verdict) -> u8
     ensures { λ r. ⌜ r ≡ schemaMark v ⌝ }
@@ -48,36 +42,6 @@ fn frame_mark(letter: u8, frame: &[u8]) -> u8
     0
 }
 
-// One more, up to a number that no list reaches.
-fn more(n: u64) -> u64 {
-    if n < 1000000000 { n + 1 } else { n }
-}
-
-// Names a line whose frame has another mark.
-fn name(ok: bool, line: u64) -> bool {
-    let ok = put(ok, b"line ");
-    let ok = put_decimal(ok, line);
-    put(ok, b" differs\n")
-}
-
-fn compared(t: Tally, same: bool) -> Tally {
-    let line = more(t.line);
-    if same {
-        return Tally {
-            line,
-            compared: more(t.compared),
-            differ: t.differ,
-            ok: t.ok,
-        };
-    }
-    Tally {
-        line,
-        compared: more(t.compared),
-        differ: more(t.differ),
-        ok: name(t.ok, line),
-    }
-}
-
 // A line: two characters stand before the frame and two behind it.
 fn counted(t: Tally, line: &[u8], room: &mut [u8]) -> Tally {
     let n = line.len();
@@ -85,12 +49,7 @@ fn counted(t: Tally, line: &[u8], room: &mut [u8]) -> Tally {
         return compared(t, false);
     }
     if line[0] == b'#' {
-        return Tally {
-            line: more(t.line),
-            compared: t.compared,
-            differ: t.differ,
-            ok: t.ok,
-        };
+        return passed_over(t);
     }
     let end = n - 2;
     let k = lines::frame(&line[2..end], room);
@@ -101,12 +60,7 @@ fn counted(t: Tally, line: &[u8], room: &mut [u8]) -> Tally {
 // A proved loop has to end, and nothing says that the input does. So the turns are counted down from a number that no run uses up.
 fn all(block: &mut [u8], line: &mut [u8], room: &mut [u8]) -> Tally {
     let mut r = lines::input::start();
-    let mut t = Tally {
-        line: 0,
-        compared: 0,
-        differ: 0,
-        ok: true,
-    };
+    let mut t = tally::start();
     let mut turns = u64::MAX;
     while turns > 0 {
         r = streams::input::next(r, block, line);
@@ -120,14 +74,6 @@ fn all(block: &mut [u8], line: &mut [u8], room: &mut [u8]) -> Tally {
     t
 }
 
-// How many were compared and differ.
-fn report(t: Tally) {
-    let ok = put_decimal(t.ok, t.compared);
-    let ok = put(ok, b" frames compared, ");
-    let ok = put_decimal(ok, t.differ);
-    put(ok, b" differ\n");
-}
-
 fn main() {
     if streams::output::usage(
         os::arg_count(),
@@ -138,5 +84,5 @@ fn main() {
     let mut block = [0u8; 65536];
     let mut line = [0u8; 131200];
     let mut room = [0u8; 65600];
-    report(all(&mut block, &mut line, &mut room));
+    tally::report(all(&mut block, &mut line, &mut room), b" frames");
 }
