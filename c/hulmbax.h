@@ -1,4 +1,5 @@
-/* The C interface of Hulmbax: brings an Avro record to a reader schema.
+/* The C interface of Hulmbax: brings an Avro record to a reader schema, and has a calendar over Avro's
+ * dates and timestamps.
  *
  * Link with libhulmbax.a, which `rt staticlib hulmbax` writes to target/staticlib/ (x86-64 Linux).
  * docs/RULES.md at the top of the repository has every rule: the bytes of a frame, the order of the
@@ -24,11 +25,14 @@ extern "C" {
 #define HULMBAX_MAX_FRAME 65535
 #define HULMBAX_MAX_DEPTH 16
 
-/* The bytes of workspace that a call needs. */
+/* The bytes of workspace that a call of hulmbax_resolve needs. */
 #define HULMBAX_WORKSPACE_LEN 65536
 
-/* The length of a result buffer into which every result fits. */
+/* The length of a result buffer into which every result of hulmbax_resolve fits. */
 #define HULMBAX_RESULT_LEN 65535
+
+/* The length of a result buffer into which every sum of hulmbax_add fits. */
+#define HULMBAX_SUM_LEN 9
 
 /* The kind byte that opens a node, of a value or of a schema. */
 enum hulmbax_kind {
@@ -60,15 +64,17 @@ enum hulmbax_kind {
     HULMBAX_KIND_DURATION = 0x19
 };
 
-/* What stops a record. An entry answers the number below zero. The numbers are those of docs/RULES.md,
- * in its checking order; of a map's failing entries the first by its key gives the number. */
+/* What stops a record, or what is asked of the calendar. An entry answers the number below zero. The
+ * numbers are those of docs/RULES.md. hulmbax_resolve gives 1 to 18, in their checking order; of a map's
+ * failing entries the first by its key gives the number. The entries of the calendar give 5, 6, 18, 26
+ * and 27; each says which, and in what order. */
 enum hulmbax_refusal {
     HULMBAX_WORKSPACE_TOO_SHORT = 1,      /* the workspace is shorter than 65,536 bytes */
     HULMBAX_SCHEMA_NO_FRAME = 2,          /* the schema is no frame */
     HULMBAX_SCHEMA_UNSOUND = 3,           /* the schema's tables, names, sizes or defaults are unsound */
     HULMBAX_DEFAULT_TOO_LONG = 4,         /* a default becomes longer than 4,096 bytes in its union's first variant */
-    HULMBAX_RECORD_NO_FRAME = 5,          /* the record is no frame, or its map keys don't rise */
-    HULMBAX_UNSUITED = 6,                 /* the kind or text doesn't suit the schema */
+    HULMBAX_RECORD_NO_FRAME = 5,          /* the record or value is no frame, or its map keys don't rise */
+    HULMBAX_UNSUITED = 6,                 /* the kind or text doesn't suit the schema, or the kind the calendar */
     HULMBAX_LONG_OUTSIDE_INT = 7,         /* a Long is outside Int */
     HULMBAX_ITEM_OUTSIDE_BYTE = 8,        /* an item meant as a byte is outside 0 to 255 */
     HULMBAX_NOT_UTF8 = 9,                 /* Bytes or Fixed meant as String are not UTF-8 */
@@ -80,7 +86,9 @@ enum hulmbax_refusal {
     HULMBAX_SYMBOL_UNKNOWN = 15,          /* a symbol is unknown and no default is among the symbols */
     HULMBAX_NO_VARIANT = 16,              /* no variant of a union accepts */
     HULMBAX_FIELD_MISSING = 17,           /* a field is missing without default */
-    HULMBAX_RESULT_TOO_LONG = 18          /* the accepted result exceeds 65,535 bytes or the buffer */
+    HULMBAX_RESULT_TOO_LONG = 18,         /* the accepted result exceeds 65,535 bytes or the buffer */
+    HULMBAX_MILLIS_ON_DATE = 26,          /* milliseconds other than zero are added to a Date */
+    HULMBAX_OUTSIDE_CALENDAR = 27         /* the day isn't in the calendar, or a result leaves its kind's range */
 };
 
 /* A sentence for a refusal, to be shown to whoever sent the record or wrote the schema. Takes the
@@ -98,9 +106,9 @@ static inline const char *hulmbax_refusal_text(int32_t refusal)
     case HULMBAX_DEFAULT_TOO_LONG:
         return "a default in the reader schema becomes longer than 4,096 bytes in the first variant of its union";
     case HULMBAX_RECORD_NO_FRAME:
-        return "the record is no frame: a byte, length or text in it is wrong, bytes are left over, it is nested deeper than 16, or the keys of a map don't rise";
+        return "the record or value is no frame: a byte, length or text in it is wrong, bytes are left over, it is nested deeper than 16, or the keys of a map don't rise";
     case HULMBAX_UNSUITED:
-        return "a value in the record is of a kind, or a text, that the schema can't take there";
+        return "a value is of a kind, or a text, that can't be taken there";
     case HULMBAX_LONG_OUTSIDE_INT:
         return "a Long in the record is too large or too small for the Int that the schema asks for";
     case HULMBAX_ITEM_OUTSIDE_BYTE:
@@ -125,6 +133,10 @@ static inline const char *hulmbax_refusal_text(int32_t refusal)
         return "the record lacks a field for which the schema has no default";
     case HULMBAX_RESULT_TOO_LONG:
         return "the result doesn't fit: it is longer than the result buffer or than 65,535 bytes";
+    case HULMBAX_MILLIS_ON_DATE:
+        return "a duration with milliseconds is added to a date, which has whole days only";
+    case HULMBAX_OUTSIDE_CALENDAR:
+        return "the day isn't in the calendar, or the outcome, or a step on the way to it, is outside the range of its kind";
     default:
         return "there is no refusal of this number";
     }
@@ -160,6 +172,69 @@ int32_t hulmbax_resolve(const uint8_t *schema, size_t schema_len,
                         const uint8_t *record, size_t record_len,
                         uint8_t *result, size_t result_len,
                         uint8_t *workspace, size_t workspace_len);
+
+/* The calendar is the proleptic Gregorian one: today's rule of leap years holds for all time, before
+ * 1582 too, and the year before year 1 is year 0. A Date is a number of days since 1970-01-01. An
+ * *instant* is a Date, or a timestamp in milliseconds, microseconds or nanoseconds since 1970-01-01 UTC
+ * (HULMBAX_KIND_DATE, HULMBAX_KIND_TIMESTAMP_MILLIS, HULMBAX_KIND_TIMESTAMP_MICROS,
+ * HULMBAX_KIND_TIMESTAMP_NANOS); the local timestamps are none.
+ *
+ * What the caller of the four functions below owes:
+ * - Each pointer points to as many bytes, or numbers, as the length after it says, or the count of
+ *   slots. None is null, not even where that is 0.
+ * - The bytes of the frames that are handed over have been set before the call. Those of a result, and
+ *   slots, need not be.
+ * - A result, or slots, overlap nothing else that is handed over; the others may overlap.
+ * - Nobody else writes what is handed over during the call.
+ *
+ * They need no workspace, keep no pointer, have no state and allocate nothing. A thread that has the
+ * stack for hulmbax_resolve has enough for them.
+ */
+
+/* The year, month and day of a Date.
+ *
+ * Answers 3: the first three slots of year_month_day are the year, the month (1 to 12) and the day (1
+ * to 31); the slots after them are as they were. Every Date has all three: the least is 23 June -5877641,
+ * the greatest 11 July 5881580. Or answers -18: there are fewer than three slots, and they are as they
+ * were.
+ */
+int32_t hulmbax_civil(int32_t date, int32_t *year_month_day, size_t slots);
+
+/* The Date of a year, a month and a day.
+ *
+ * Answers 1: the first slot of date is the Date; the slots after it are as they were. Or answers -k, and
+ * the slots are as they were. In checking order: -27, the year has no such day (a month below 1 or above
+ * 12, 29 February in a year without one), or the day is outside Date; -18, there is no slot.
+ */
+int32_t hulmbax_date(int32_t year, int32_t month, int32_t day, int32_t *date, size_t slots);
+
+/* Adds a duration to an instant, both value frames.
+ *
+ * Months are added first; a day past the end of the month then becomes its last day. Then days are
+ * added, then milliseconds. So 31 January and one month give 28 February, and in a leap year the 29th.
+ *
+ * Answers n: the first n bytes of result are the frame of the sum, of the instant's kind; n is 5 for a
+ * Date and 9 for a timestamp. The bytes after them are as they were. Or answers -k, and result is as it
+ * was. In checking order: -5, one of the two is no frame; -6, the first is of a kind that is no instant,
+ * or the second no Duration; -26, the instant is a Date and the milliseconds are not zero; -27, the sum,
+ * or a step on the way to it, is outside the range of the instant's kind; -18, result is shorter than
+ * the sum.
+ */
+int32_t hulmbax_add(const uint8_t *instant, size_t instant_len,
+                    const uint8_t *duration, size_t duration_len,
+                    uint8_t *result, size_t result_len);
+
+/* Whether a window holds an instant; all three are value frames.
+ *
+ * A window holds the instants from its opening one to before its closing one. One that closes at or
+ * before its opening holds nothing.
+ *
+ * Answers 1 if it holds the instant, and 0 if not. Or answers -k, in checking order: -5, one of the
+ * three is no frame; -6, one of them is no instant, or they are not all of one kind.
+ */
+int32_t hulmbax_holds(const uint8_t *opening, size_t opening_len,
+                      const uint8_t *closing, size_t closing_len,
+                      const uint8_t *instant, size_t instant_len);
 
 #ifdef __cplusplus
 }

@@ -33,6 +33,23 @@
 //! The names are those of apache-avro, where it has them; module [`apache_avro`] has the code that
 //! maps that crate's values and schemas onto these. Module [`frame`] is the byte level below.
 //!
+//! # Calendar
+//!
+//! Module [`calendar`] has the days of Dates, adds a [`Duration`] to a Date or a timestamp, and tells
+//! whether a window holds one:
+//!
+//! ```
+//! use hulmbax::calendar::{add, date, holds, Civil};
+//! use hulmbax::{Duration, Value};
+//!
+//! let opening = Value::Date(date(Civil::new(2024, 1, 31))?);
+//! let closing = add(&opening, &Duration { months: 1, ..Duration::default() })?;
+//! assert_eq!(closing, Value::Date(date(Civil::new(2024, 2, 29))?));
+//! assert!(holds(&opening, &closing, &opening)?);
+//! assert!(!holds(&opening, &closing, &closing)?);
+//! # Ok::<(), hulmbax::Error>(())
+//! ```
+//!
 //! # Threads and stack
 //!
 //! A call keeps nothing: equal schemas and records give equal answers, and threads may call at the
@@ -46,6 +63,7 @@
 #![deny(unsafe_code)]
 #![warn(missing_debug_implementations)]
 
+pub mod calendar;
 mod error;
 mod ffi;
 pub mod frame;

@@ -14,16 +14,19 @@ enum Of {
     Content,
     /// The length of the result.
     Room,
+    /// A day or an instant of the calendar.
+    Calendar,
 }
 
 // The name and the number of each, what it is of, and a sentence for it.
 macro_rules! refusals {
     ($($(#[$doc:meta])* $name:ident = $number:literal, $of:ident, $sentence:literal;)*) => {
-        /// The library's answer to a schema that it doesn't take, or to a record that it doesn't
-        /// bring to the schema.
+        /// The library's answer to a schema that it doesn't take, to a record that it doesn't
+        /// bring to the schema, or to a day or instant that its calendar doesn't take.
         ///
-        /// The numbers are those of docs/RULES.md, and the library looks for them in their
-        /// order. Of a map's failing entries the first by its key gives the refusal.
+        /// The numbers are those of docs/RULES.md. A record gets 1 to 18, which the library
+        /// looks for in their order; of a map's failing entries the first by its key gives the
+        /// refusal. The calendar gives 5, 6, 26, 27 and 18, in this order.
         #[derive(Clone, Copy, Debug, PartialEq, Eq, PartialOrd, Ord, Hash)]
         #[repr(u8)]
         #[non_exhaustive]
@@ -63,11 +66,11 @@ refusals! {
     /// 4: a default becomes longer than 4,096 bytes in its union's first variant.
     DefaultTooLong = 4, Schema, "a default in the reader schema becomes longer than 4,096 bytes in the first variant of its union";
 
-    /// 5: the record is no frame, or its map keys don't rise.
-    RecordNoFrame = 5, Frame, "the record is no frame: a byte, length or text in it is wrong, bytes are left over, it is nested deeper than 16, or the keys of a map don't rise";
+    /// 5: the record or value is no frame, or its map keys don't rise.
+    RecordNoFrame = 5, Frame, "the record or value is no frame: a byte, length or text in it is wrong, bytes are left over, it is nested deeper than 16, or the keys of a map don't rise";
 
-    /// 6: the kind of a value, or its text, doesn't suit the schema.
-    Unsuited = 6, Content, "a value in the record is of a kind, or a text, that the schema can't take there";
+    /// 6: the kind of a value, or its text, doesn't suit the schema, or its kind the calendar.
+    Unsuited = 6, Content, "a value is of a kind, or a text, that can't be taken there";
 
     /// 7: a Long is outside Int.
     LongOutsideInt = 7, Content, "a Long in the record is too large or too small for the Int that the schema asks for";
@@ -104,6 +107,13 @@ refusals! {
 
     /// 18: the accepted result exceeds 65,535 bytes or the result buffer.
     ResultTooLong = 18, Room, "the result doesn't fit: it is longer than the result buffer or than 65,535 bytes";
+
+    /// 26: milliseconds other than zero are added to a Date.
+    MillisOnDate = 26, Calendar, "a duration with milliseconds is added to a date, which has whole days only";
+
+    /// 27: the day isn't in the calendar; or the outcome, or a step on the way to it, leaves the
+    /// kind's range.
+    OutsideCalendar = 27, Calendar, "the day isn't in the calendar, or the outcome, or a step on the way to it, is outside the range of its kind";
 }
 
 impl Refusal {
@@ -153,17 +163,22 @@ impl std::error::Error for Refusal {}
 mod tests {
     use super::*;
 
+    // Those of records, and those of the calendar.
+    fn numbers() -> Vec<u8> {
+        (1..=18).chain([26, 27]).collect()
+    }
+
     #[test]
-    fn numbers_are_one_to_eighteen_in_order() {
-        let numbers: Vec<u8> = Refusal::all().iter().map(|r| r.number()).collect();
-        assert_eq!(numbers, (1..=18).collect::<Vec<u8>>());
+    fn numbers_are_those_of_the_rules_in_order() {
+        let all: Vec<u8> = Refusal::all().iter().map(|r| r.number()).collect();
+        assert_eq!(all, numbers());
     }
 
     #[test]
     fn a_number_names_its_refusal_and_no_other_number_does() {
         for number in 0..=u8::MAX {
             let named = Refusal::from_number(number).map(Refusal::number);
-            assert_eq!(named, (1..=18).contains(&number).then_some(number));
+            assert_eq!(named, numbers().contains(&number).then_some(number));
         }
     }
 
@@ -172,7 +187,7 @@ mod tests {
         let mut sentences: Vec<_> = Refusal::all().iter().map(|r| r.sentence()).collect();
         sentences.sort_unstable();
         sentences.dedup();
-        assert_eq!(sentences.len(), 18);
+        assert_eq!(sentences.len(), Refusal::all().len());
     }
 
     #[test]

@@ -14,7 +14,7 @@ fn text(text: &str) -> String {
 
 /// A value of each kind, in the order of the kinds, and its frame; a line each.
 #[rustfmt::skip]
-fn values() -> Vec<(Value, &'static str)> {
+pub fn values() -> Vec<(Value, &'static str)> {
     let duration = Duration {
         months: 1,
         days: 2,

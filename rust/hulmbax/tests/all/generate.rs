@@ -39,8 +39,8 @@ impl Generator {
         (0..n).map(|_| self.next() as u8).collect()
     }
 
-    // A number of any size, small ones often.
-    fn long(&mut self) -> i64 {
+    /// A number of any size, small ones often.
+    pub fn long(&mut self) -> i64 {
         let n = self.next() as i64;
         n >> self.below(64)
     }

@@ -1,8 +1,9 @@
-// The C header has the numbers, the sentences and the version of this crate.
-use hulmbax::frame::{kind, MAX_DEPTH, MAX_FRAME, RESULT_LEN, WORKSPACE_LEN};
+// The C header has the entries, the numbers, the sentences and the version of this crate.
+use hulmbax::frame::{kind, MAX_DEPTH, MAX_FRAME, RESULT_LEN, SUM_LEN, WORKSPACE_LEN};
 use hulmbax::{Refusal, Schema};
 
 const HEADER: &str = include_str!("../../../../c/hulmbax.h");
+const ENTRIES: &str = include_str!("../../src/ffi.rs");
 
 // The name of a variant as a constant of C: `SchemaNoFrame` as `SCHEMA_NO_FRAME`.
 fn constant(name: &str) -> String {
@@ -19,6 +20,24 @@ fn constant(name: &str) -> String {
 // The lines of the header, without the spaces at either end.
 fn has_line(start: &str) -> bool {
     HEADER.lines().any(|line| line.trim().starts_with(start))
+}
+
+// The names of what is declared on the lines that begin so, in order.
+fn declared<'a>(source: &'a str, start: &str) -> Vec<&'a str> {
+    let lines = source
+        .lines()
+        .filter_map(|line| line.trim().strip_prefix(start));
+    lines
+        .filter_map(|line| line.split_once('('))
+        .map(|(name, _)| name)
+        .collect()
+}
+
+#[test]
+fn every_entry_is_declared() {
+    let entries = declared(ENTRIES, "fn hulmbax_");
+    assert_eq!(entries, ["resolve", "civil", "date", "add", "holds"]);
+    assert_eq!(declared(HEADER, "int32_t hulmbax_"), entries);
 }
 
 #[test]
@@ -79,6 +98,7 @@ fn the_version_and_the_limits() {
         ("VERSION_PATCH", env!("CARGO_PKG_VERSION_PATCH").to_string()),
         ("WORKSPACE_LEN", WORKSPACE_LEN.to_string()),
         ("RESULT_LEN", RESULT_LEN.to_string()),
+        ("SUM_LEN", SUM_LEN.to_string()),
         ("MAX_FRAME", MAX_FRAME.to_string()),
         ("MAX_DEPTH", MAX_DEPTH.to_string()),
     ];

@@ -1,5 +1,7 @@
 // The tests of the crate over the linked library.
 mod buffers;
+mod calendar;
+mod calendar_frames;
 mod common;
 mod finishes;
 mod frames;

@@ -46,7 +46,7 @@ fn in_records_and_arrays() {
     let sent = Value::record([("boat", boat), ("race", Value::from(1))]);
     let error = error(&schema, &sent);
     assert_eq!(place(&error), at("boat.crew[2].age", Refusal::Unsuited));
-    let text = "boat.crew[2].age: a value in the record is of a kind";
+    let text = "boat.crew[2].age: a value is of a kind";
     assert!(error.to_string().starts_with(text), "{error}");
 }
 

@@ -1,8 +1,9 @@
 // The stack that the documentation recommends is enough. Records nested as deep as a frame can be,
 // the innermost empty, take the most of all shapes that were measured.
 use crate::common::{record, resolved};
+use hulmbax::calendar::{add, holds};
 use hulmbax::frame::MAX_DEPTH;
-use hulmbax::{Reader, Refusal, Schema, Value};
+use hulmbax::{Duration, Reader, Refusal, Schema, Value};
 use std::thread::Builder;
 
 const RECOMMENDED: usize = 256 * 1024;
@@ -50,4 +51,15 @@ fn for_a_reader_that_looks_for_the_path() {
     let error = answer.unwrap_err();
     assert_eq!(error.refusal(), Some(Refusal::Unsuited));
     assert_eq!(error.path().steps().len(), MAX_DEPTH - 1);
+}
+
+#[test]
+fn for_the_calendar() {
+    let sent = deep_value(Value::record::<&str>([]));
+    let (sum, held) = on_the_recommended_stack(move || {
+        let sum = add(&sent, &Duration::default());
+        (sum, holds(&sent, &sent, &sent))
+    });
+    assert_eq!(sum, Err(Refusal::Unsuited.into()));
+    assert_eq!(held, Err(Refusal::Unsuited.into()));
 }
