@@ -1,6 +1,9 @@
 // What a program counts that holds its answers to a list: each line that has another answer is named, and at the end both are counted.
 use crate::output::put;
 use crate::output::put_decimal;
+ghost use mathlib.Core.Path.{_≡_};
+ghost use mathlib.Core.Bool.{false};
+ghost use Rattle.streams.specs.Tally.{started, oneMore, passedOver, Compared};
 
 // The lines read, the answers compared, those that differ, and whether every write so far went through.
 pub struct Tally {
@@ -10,7 +13,9 @@ pub struct Tally {
     pub ok: bool,
 }
 
-pub fn start() -> Tally {
+pub fn start() -> Tally
+    ensures { λ r. ⌜ r ≡ started ⌝ }
+{
     Tally {
         line: 0,
         compared: 0,
@@ -20,19 +25,25 @@ pub fn start() -> Tally {
 }
 
 // One more, up to a number that no list reaches.
-fn more(n: u64) -> u64 {
+fn more(n: u64) -> u64
+    ensures { λ r. ⌜ r ≡ oneMore n ⌝ }
+{
     if n < 1000000000 { n + 1 } else { n }
 }
 
 // Names a line that has another answer.
-fn name(ok: bool, line: u64) -> bool {
+fn name(ok: bool, line: u64) -> bool
+    ensures { λ r. ⌜ (ok ≡ false → r ≡ false) ⌝ }
+{
     let ok = put(ok, b"line ");
     let ok = put_decimal(ok, line);
     put(ok, b" differs\n")
 }
 
 // A line that says something, and expects no answer.
-pub fn passed_over(t: Tally) -> Tally {
+pub fn passed_over(t: Tally) -> Tally
+    ensures { λ r. ⌜ r ≡ passedOver t ⌝ }
+{
     Tally {
         line: more(t.line),
         compared: t.compared,
@@ -42,7 +53,9 @@ pub fn passed_over(t: Tally) -> Tally {
 }
 
 // A line whose answer is the expected one, or another.
-pub fn compared(t: Tally, same: bool) -> Tally {
+pub fn compared(t: Tally, same: bool) -> Tally
+    ensures { λ r. ⌜ Compared t same r ⌝ }
+{
     let line = more(t.line);
     if same {
         return Tally {
@@ -60,11 +73,13 @@ pub fn compared(t: Tally, same: bool) -> Tally {
     }
 }
 
-// How many of what were compared, and how many differ.
-pub fn report(t: Tally, what: &[u8]) {
+// How many of what were compared, and how many differ; whether every write went through.
+pub fn report(t: Tally, what: &[u8]) -> bool
+    ensures { λ r. ⌜ (t .ok ≡ false → r ≡ false) ⌝ }
+{
     let ok = put_decimal(t.ok, t.compared);
     let ok = put(ok, what);
     let ok = put(ok, b" compared, ");
     let ok = put_decimal(ok, t.differ);
-    put(ok, b" differ\n");
+    put(ok, b" differ\n")
 }

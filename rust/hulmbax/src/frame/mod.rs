@@ -1,8 +1,8 @@
 //! Frames, the bytes that the library reads and writes, and its entries over them.
 //!
 //! [`Reader`](crate::Reader) and [`calendar`](crate::calendar) make the frames themselves; this
-//! module is for a program that has frames already, or that keeps buffers of its own. docs/RULES.md at the top of the repository says what the
-//! bytes of a frame are.
+//! module is for a program that has frames already, or that keeps buffers of its own. docs/RULES.md
+//! at the top of the repository says what the bytes of a frame are.
 
 pub(crate) mod bytes;
 mod error;
