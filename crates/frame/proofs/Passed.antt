@@ -7,8 +7,9 @@ use mathlib.Core.Bool.{Bool, true, false}
 use native.Mathlib.Omega.{arith}
 use lib.Dec.{ltb, eqb}
 use lib.ListN.{length}
-use Rattle.base.specs.Base.{if_then_else_, ok, stop, accepted}
+use Rattle.base.specs.Base.{if_then_else_, Result, ok, stop, accepted}
 use Rattle.text.specs.Read.{Read, _>>=_}
+use Rattle.text.specs.Measured.{Reads}
 use Rattle.frame.specs.Tree.{Value}
 use Rattle.frame.specs.Readers.{whole}
 use Rattle.frame.specs.ValueFrame.{readValue, decodeValue}
@@ -35,7 +36,7 @@ whole-reads {A} p s a e = long (ltb 65535 (length s)) e
     long false e = next (p s) refl e
 
 -- and so was that of a value frame that number 5 passes
-value-decoded : (v : List ℕ) (w : Value) → checkedValue (decodeValue v) ≡ ok w → decodeValue v ≡ some w
+pub value-decoded : (v : List ℕ) (w : Value) → checkedValue (decodeValue v) ≡ ok w → decodeValue v ≡ some w
 unfolding checkedValue
 value-decoded v w e = go (decodeValue v) refl e
   where
@@ -68,3 +69,35 @@ accepted-verdict v = go (decodeValue v)
     go : (o : Option Value) → accepted (checkedValue o) ≡ isSound (verdict keysRise o)
     go none = refl
     go (some w) = test w (keysRise w)
+
+-- ---- frames that number 5 passes, and those that it stops
+
+abbrev pub Passes : List ℕ → Bool
+Passes v = accepted (checkedValue (decodeValue v))
+
+is-ok : (r : Result Value) → accepted r ≡ true → (w : Value) × (r ≡ ok w)
+unfolding accepted
+is-ok (ok w) e = (w, refl)
+is-ok (stop n) e = let z : _≡_ {A = ℕ} 0 1 = cc in absurd (omega arith)
+
+pub passed : (v : List ℕ) → Passes v ≡ true → (w : Value) × (checkedValue (decodeValue v) ≡ ok w)
+passed v e = is-ok (checkedValue (decodeValue v)) e
+
+pub stopped : (v : List ℕ) → Passes v ≡ false → checkedValue (decodeValue v) ≡ stop 5
+unfolding checkedValue accepted
+stopped v e = go (decodeValue v) e
+  where
+    test : (w : Value) (b : Bool) → accepted (if b then ok w else stop 5) ≡ false → (if b then ok w else stop 5) ≡ stop 5
+    test w true e = let z : _≡_ {A = ℕ} 0 1 = cc in absurd (omega arith)
+    test w false e = refl
+
+    go : (o : Option Value) → accepted (checkedValue o) ≡ false → checkedValue o ≡ stop 5
+    go none e = refl
+    go (some w) e = test w (keysRise w) e
+
+pub passes-reads : (v : List ℕ) → Passes v ≡ true → Reads (readValue 16 v)
+unfolding Reads
+passes-reads v e =
+    let p : (w : Value) × (checkedValue (decodeValue v) ≡ ok w) = passed v e in
+    let r : (r : List ℕ) × (readValue 16 v ≡ some (p .0, r)) = passed-reads v (p .0) (p .1) in
+    (p .0, (r .0, r .1))

@@ -2,7 +2,7 @@
 use Prim.Native.Nat.{ℕ, _≤_}
 use mathlib.Core.Path.{_≡_, refl, sym, ap, _∙_}
 use mathlib.Core.List.{List, _++_, append-nil}
-use mathlib.Core.Option.{Option, none, some}
+use mathlib.Core.Option.{some}
 use mathlib.Core.Bool.{Bool, true, false, not, Bool·not-not}
 use native.Mathlib.Omega.{arith}
 use lib.Dec.{T, eqb}
@@ -10,7 +10,7 @@ use lib.IntN.{pos}
 use lib.ListN.{length, take, drop, getD, length-drop}
 use lib.Seq.{drop-length, length-take-le}
 use borrow.Author.Tests.{eq-eqb, ne-eqb}
-use Rattle.base.specs.Base.{if_then_else_, Result, ok, stop, after, accepted}
+use Rattle.base.specs.Base.{if_then_else_, ok, stop, after}
 use Rattle.number.specs.Number.{allBytes}
 use Rattle.text.specs.Measured.{Reads}
 use Rattle.duration.specs.Duration.{durationOf}
@@ -20,10 +20,9 @@ use Rattle.scalar.specs.declared.Scalar.{Scalar}
 use Rattle.scalar.specs.declared.Scalar.the-variants.{Int}
 use Rattle.frame.specs.Kind
 use Rattle.frame.specs.Tree.{Value, kindOf, octets}
-use Rattle.frame.specs.ValueFrame.{readValue, decodeValue}
-use Rattle.frame.specs.Sound.{keysRise, checkedValue}
+use Rattle.frame.specs.ValueFrame.{readValue}
 use Rattle.frame.proofs.Reading.{read-what}
-use Rattle.frame.proofs.Passed.{passed-reads}
+use Rattle.frame.proofs.Passed.{Passes, passed, stopped, passed-reads}
 use Rattle.frame.proofs.ValueNodes.{value-kind}
 use Rattle.types.specs.Contract.{scalarOf}
 use Rattle.types.proofs.Contents.{duration-content}
@@ -37,37 +36,6 @@ denied {a} {b} e h = sym e ∙ sym (Bool·not-not a) ∙ ap not h
 
 pub granted : {a b : Bool} → a ≡ b → not a ≡ false → b ≡ true
 granted {a} {b} e h = sym e ∙ sym (Bool·not-not a) ∙ ap not h
-
--- ---- frames that number 5 passes, and those that it stops
-abbrev pub Passes : List ℕ → Bool
-Passes v = accepted (checkedValue (decodeValue v))
-
-is-ok : (r : Result Value) → accepted r ≡ true → (w : Value) × (r ≡ ok w)
-unfolding accepted
-is-ok (ok w) e = (w, refl)
-is-ok (stop n) e = let z : _≡_ {A = ℕ} 0 1 = cc in absurd (omega arith)
-
-pub passed : (v : List ℕ) → Passes v ≡ true → (w : Value) × (checkedValue (decodeValue v) ≡ ok w)
-passed v e = is-ok (checkedValue (decodeValue v)) e
-
-pub stopped : (v : List ℕ) → Passes v ≡ false → checkedValue (decodeValue v) ≡ stop 5
-unfolding checkedValue accepted
-stopped v e = go (decodeValue v) e
-  where
-    test : (w : Value) (b : Bool) → accepted (if b then ok w else stop 5) ≡ false → (if b then ok w else stop 5) ≡ stop 5
-    test w true e = let z : _≡_ {A = ℕ} 0 1 = cc in absurd (omega arith)
-    test w false e = refl
-
-    go : (o : Option Value) → accepted (checkedValue o) ≡ false → checkedValue o ≡ stop 5
-    go none e = refl
-    go (some w) e = test w (keysRise w) e
-
-pub reads : (v : List ℕ) → Passes v ≡ true → Reads (readValue 16 v)
-unfolding Reads
-reads v e =
-    let p : (w : Value) × (checkedValue (decodeValue v) ≡ ok w) = passed v e in
-    let r : (r : List ℕ) × (readValue 16 v ≡ some (p .0, r)) = passed-reads v (p .0) (p .1) in
-    (p .0, (r .0, r .1))
 
 -- ---- an instant, and a Duration, in a node
 pub scalar-instant : (v : List ℕ) (x : Value) → kindOf x ≡ getD v 0 0 → isScalar (getD v 0 0) ≡ true → scalarOf x ≡ instantIn x

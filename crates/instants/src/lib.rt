@@ -6,7 +6,6 @@ use calendar::Dated;
 use calendar::Held;
 use calendar::Sum;
 use duration::Duration;
-use frame::Verdict;
 use frame::kind;
 use scalar::Scalar;
 ghost use mathlib.Core.Path.{_≡_};
@@ -15,28 +14,15 @@ ghost use mathlib.Core.Option.{some};
 ghost use Prim.Native.Nat.{ℕ};
 ghost use lib.IntN.{pos, negℤ};
 ghost use lib.ListN.{length, getD};
-ghost use Rattle.base.specs.Base.{accepted};
 ghost use Rattle.text.specs.Measured.{Reads};
 ghost use Rattle.duration.specs.Duration.{durationOf};
 ghost use Rattle.frame.specs.Kind;
 ghost use Rattle.frame.specs.Tree.{Value, octets};
-ghost use Rattle.frame.specs.ValueFrame.{readValue, decodeValue, encodeValue};
-ghost use Rattle.frame.specs.Sound.{checkedValue};
+ghost use Rattle.frame.specs.ValueFrame.{readValue, encodeValue};
 ghost use Rattle.buffer.specs.After.{checkedResult, bufferAfter, codeFor};
 ghost use Rattle.types.specs.Contract.{valueOf};
 ghost use Rattle.calendar.specs.Answers.{datedOf, sumOf};
 ghost use Rattle.instants.specs.Frames.{instantIn, frameSum, sumFor, heldFor, heldCode, civilFor, dateIn, dateFor};
-
-// Whether the bytes are a frame that number 5 passes.
-fn is_frame(s: &[u8]) -> bool
-    ensures { λ r. ⌜ r ≡ accepted (checkedValue (decodeValue (now (s .entry)))) ⌝ }
-{
-    match value::value_frame(s) {
-        Verdict::NoFrame => false,
-        Verdict::Unsound => false,
-        Verdict::Sound => true,
-    }
-}
 
 // The number or the time that a node is; Int 0 for any other kind, which is no instant.
 fn instant_in(v: &[u8]) -> Scalar
@@ -63,10 +49,10 @@ fn duration_in(v: &[u8]) -> Duration
 fn frame_sum(instant: &[u8], duration: &[u8]) -> Sum
     ensures { λ r. ⌜ r ≡ sumOf (frameSum (now (instant .entry)) (now (duration .entry))) ⌝ }
 {
-    if !is_frame(instant) {
+    if !value::is_frame(instant) {
         return Sum::Refused(refusal::RECORD_NO_FRAME);
     }
-    if !is_frame(duration) {
+    if !value::is_frame(duration) {
         return Sum::Refused(refusal::RECORD_NO_FRAME);
     }
     if duration[0] != kind::DURATION {
@@ -111,13 +97,13 @@ pub fn add(instant: &[u8], duration: &[u8], result: &mut [u8]) -> i32
 pub fn holds(opening: &[u8], closing: &[u8], instant: &[u8]) -> i32
     ensures { λ r. ⌜ r ≡ heldCode (heldFor (now (opening .entry)) (now (closing .entry)) (now (instant .entry))) ⌝ }
 {
-    if !is_frame(opening) {
+    if !value::is_frame(opening) {
         return negated(refusal::RECORD_NO_FRAME);
     }
-    if !is_frame(closing) {
+    if !value::is_frame(closing) {
         return negated(refusal::RECORD_NO_FRAME);
     }
-    if !is_frame(instant) {
+    if !value::is_frame(instant) {
         return negated(refusal::RECORD_NO_FRAME);
     }
     match calendar::holds(

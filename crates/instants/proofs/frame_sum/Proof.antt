@@ -4,7 +4,8 @@ use mathlib.Core.Path.{sym, ap, _∙_}
 use Rattle.number.proofs.Laws.{getD-allBytes}
 use Rattle.frame.proofs.ValueNodes.{value-there}
 use Rattle.calendar.specs.Answers.{sumOf}
-use Rattle.instants.proofs.FrameLaws.{denied, granted, reads, sum-no-instant, sum-no-duration, sum-other, sum-of-both}
+use Rattle.frame.proofs.Passed.{passes-reads}
+use Rattle.instants.proofs.FrameLaws.{denied, granted, sum-no-instant, sum-no-duration, sum-other, sum-of-both}
 use borrow.Author.Needs.{needs}
 use Rattle.instants.proofs.frame_sum.Statement.{statement}
 use Rattle.instants.proofs.frame_sum.Tie as tie
@@ -28,7 +29,7 @@ returns-2 c =
     sym (ap sumOf (sum-no-duration (a .instant .now) (a .duration .now) (granted (c .before .before .before .is-frame .ensures) (c .before .before .if1 .left)) (denied (c .before .is-frame2 .ensures) (c .if2 .taken))))
 
 shared-slice-read-if3 : tie.Need-shared-slice-read-if3
-shared-slice-read-if3 c = value-there 16 (c .before .before .before .before .before .before .before .args .duration .now) (reads (c .before .before .before .before .before .before .before .args .duration .now) (granted (c .before .before .is-frame2 .ensures) (c .before .if2 .left))) .1
+shared-slice-read-if3 c = value-there 16 (c .before .before .before .before .before .before .before .args .duration .now) (passes-reads (c .before .before .before .before .before .before .before .args .duration .now) (granted (c .before .before .is-frame2 .ensures) (c .before .if2 .left))) .1
 
 returns-3 : tie.Need-returns-3
 unfolding sumOf
@@ -38,10 +39,10 @@ returns-3 c =
     sym (ap sumOf (sum-other (a .instant .now) d (granted (c .before .before .before .before .before .is-frame .ensures) (c .before .before .before .before .if1 .left)) (granted (c .before .before .before .is-frame2 .ensures) (c .before .before .if2 .left)) (getD-allBytes d (λ i. omega (arith, c .before .shared-slice-known3 .given i))) (c .if3 .taken)))
 
 instant-in-requires : tie.Need-instant-in-requires
-instant-in-requires c κs = reads (c .before .before .before .before .before .before .before .before .args .instant .now) (granted (c .before .before .before .before .before .is-frame .ensures) (c .before .before .before .before .if1 .left))
+instant-in-requires c κs = passes-reads (c .before .before .before .before .before .before .before .before .args .instant .now) (granted (c .before .before .before .before .before .is-frame .ensures) (c .before .before .before .before .if1 .left))
 
 duration-in-requires : tie.Need-duration-in-requires
-duration-in-requires c κs = (reads (c .before .before .before .before .before .before .before .before .before .args .duration .now) (granted (c .before .before .before .before .is-frame2 .ensures) (c .before .before .before .if2 .left)), c .before .if3 .left)
+duration-in-requires c κs = (passes-reads (c .before .before .before .before .before .before .before .before .before .args .duration .now) (granted (c .before .before .before .before .is-frame2 .ensures) (c .before .before .before .if2 .left)), c .before .if3 .left)
 
 add-requires : tie.Need-add-requires
 add-requires c κs = search needs

@@ -3,7 +3,8 @@ use mathlib.Core.Path.{sym, ap, _∙_}
 use mir.Syntax.{w32}
 use mir.ValLaws.{toZ-ofZ}
 use Rattle.calendar.specs.Answers.{heldOf}
-use Rattle.instants.proofs.FrameLaws.{denied, granted, reads, held-no-opening, held-no-closing, held-no-instant, held-of-all}
+use Rattle.frame.proofs.Passed.{passes-reads}
+use Rattle.instants.proofs.FrameLaws.{denied, granted, held-no-opening, held-no-closing, held-no-instant, held-of-all}
 use Rattle.instants.proofs.AnswerLaws.{held-stop, held-inside, held-outside, held-refused}
 use borrow.Author.Needs.{needs}
 use Rattle.instants.proofs.holds.Statement.{statement}
@@ -43,13 +44,13 @@ returns-3 c =
     toZ-ofZ w32 (c .negated3 .result) (record { sfits = c .negated3 .ok }) ∙ c .negated3 .ensures ∙ held-stop _ 5 (held-no-instant (a .opening .now) (a .closing .now) (a .instant .now) (granted (c .before .before .before .before .before .before .is-frame .ensures) (c .before .before .before .before .before .if1 .left)) (granted (c .before .before .before .before .is-frame2 .ensures) (c .before .before .before .if2 .left)) (denied (c .before .before .is-frame3 .ensures) (c .before .if3 .taken)))
 
 instant-in-requires : tie.Need-instant-in-requires
-instant-in-requires c κs = reads (c .before .before .before .before .before .before .before .before .before .args .opening .now) (granted (c .before .before .before .before .before .is-frame .ensures) (c .before .before .before .before .if1 .left))
+instant-in-requires c κs = passes-reads (c .before .before .before .before .before .before .before .before .before .args .opening .now) (granted (c .before .before .before .before .before .is-frame .ensures) (c .before .before .before .before .if1 .left))
 
 instant-in-requires-2 : tie.Need-instant-in-requires-2
-instant-in-requires-2 c κs = reads (c .before .before .before .before .before .before .before .before .before .before .args .closing .now) (granted (c .before .before .before .before .is-frame2 .ensures) (c .before .before .before .if2 .left))
+instant-in-requires-2 c κs = passes-reads (c .before .before .before .before .before .before .before .before .before .before .args .closing .now) (granted (c .before .before .before .before .is-frame2 .ensures) (c .before .before .before .if2 .left))
 
 instant-in-requires-3 : tie.Need-instant-in-requires-3
-instant-in-requires-3 c κs = reads (c .before .before .before .before .before .before .before .before .before .before .before .args .instant .now) (granted (c .before .before .before .is-frame3 .ensures) (c .before .before .if3 .left))
+instant-in-requires-3 c κs = passes-reads (c .before .before .before .before .before .before .before .before .before .before .before .args .instant .now) (granted (c .before .before .before .is-frame3 .ensures) (c .before .before .if3 .left))
 
 holds-requires : tie.Need-holds-requires
 holds-requires c κs = search needs

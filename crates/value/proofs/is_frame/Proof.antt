@@ -1,9 +1,9 @@
--- `instants::is_frame` meets its contract: the verdict that number 5 passes.
+-- `value::is_frame` meets its contract: the verdict that number 5 passes.
 use mathlib.Core.Path.{sym, ap, _∙_}
 use Rattle.frame.proofs.Passed.{isSound, accepted-verdict}
 use borrow.Author.Needs.{needs}
-use Rattle.instants.proofs.is_frame.Statement.{statement}
-use Rattle.instants.proofs.is_frame.Tie as tie
+use Rattle.value.proofs.is_frame.Statement.{statement}
+use Rattle.value.proofs.is_frame.Tie as tie
 
 value-frame-requires : tie.Need-value-frame-requires
 value-frame-requires c κs = search needs
