@@ -35,6 +35,11 @@ pub const FIELD_MISSING: u8 = 17;
 
 pub const RESULT_TOO_LONG: u8 = 18;
 
+// Those of lists of finishes (docs/RULES.md, "Corrected finishes").
+pub const TOO_MANY_FRAMES: u8 = 23;
+
+pub const NO_FINISH: u8 = 24;
+
 // The calendar's (docs/RULES.md, "Dates and instants").
 pub const MILLIS_ON_DATE: u8 = 26;
 
