@@ -1,0 +1,9 @@
+pub mod PartLaws
+pub mod ReadingLaws
+pub mod SailLaws
+pub mod EnterLaws
+pub mod NameLaws
+pub mod NamedFrames
+pub mod Words
+pub mod Worked
+pub mod Greatest

@@ -1,0 +1,4 @@
+pub mod Sails
+pub mod Entering
+pub mod Unbeaten
+pub mod Rules

@@ -1,0 +1,3 @@
+pub mod Current
+pub mod Entering
+pub mod Claims

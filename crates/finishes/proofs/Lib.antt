@@ -1,0 +1,4 @@
+pub mod FinishLaws
+pub mod RankOrder
+pub mod Words
+pub mod Longs

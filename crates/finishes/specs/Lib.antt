@@ -1,0 +1,3 @@
+pub mod Finish
+pub mod Words
+pub mod Parts
