@@ -9,7 +9,7 @@ use mir.Val.{SFits, toZ, ofZ}
 use mir.ValLaws.{toZ-ofZ, toZ-pos}
 use Rattle.base.specs.Base.{Result, ok, stop}
 use Rattle.hulmbax.specs.Answer.{answer}
-use Rattle.hulmbax.specs.Entry.{Bounded, codeOf, readCode, resolvedOf}
+use Rattle.hulmbax.specs.Entry.{Bounded, Coded, codeOf, readCode, resolvedOf}
 use Rattle.hulmbax.specs.declared.Resolved.{Resolved}
 use Rattle.hulmbax.specs.declared.Resolved.the-variants.{Accepted, Refused}
 use Rattle.hulmbax.proofs.Bounds.{Small, answer-small}
@@ -24,26 +24,32 @@ answer-bounded s v len work = go (answer s v len work) (answer-small s v len wor
     go (ok r) h = h
     go (stop n) h = h
 
--- ---- which one, the number tells: a length is positive, a refusal negative
+-- so it has a code
+pub bounded-coded : (r : Resolved) → Bounded r → Coded r
+unfolding Bounded Coded
+bounded-coded (Accepted n) h = h .1
+bounded-coded (Refused e) h = h .0
+
+-- ---- which one, the number tells: a record's length is positive, a refusal negative
 
 pub code-accepted : (n : ℕ) → Bounded (Accepted n) → (k : ℕ) × (codeOf (Accepted n) ≡ pos (suc k))
 unfolding Bounded codeOf
 code-accepted zero h = absurd (omega (arith, h .0))
 code-accepted (suc k) h = (k, refl)
 
-pub code-refused : (e : ℕ) → Bounded (Refused e) → (k : ℕ) × (codeOf (Refused e) ≡ negsuc k)
-unfolding Bounded codeOf
-code-refused zero h = absurd (omega (arith, h .0))
+pub code-refused : (e : ℕ) → Coded (Refused e) → (k : ℕ) × (codeOf (Refused e) ≡ negsuc k)
+unfolding Coded codeOf
+code-refused zero h = absurd (omega (arith, h))
 code-refused (suc k) h = (k, refl)
 
-pub read-code : (r : Resolved) → Bounded r → readCode (codeOf r) ≡ r
-unfolding Bounded codeOf readCode
+pub read-code : (r : Resolved) → Coded r → readCode (codeOf r) ≡ r
+unfolding Coded codeOf readCode
 read-code (Accepted n) h = refl
-read-code (Refused zero) h = absurd (omega (arith, h .0))
+read-code (Refused zero) h = absurd (omega (arith, h))
 read-code (Refused (suc k)) h = refl
 
 -- so two answers with one number are the same
-pub code-injective : (r q : Resolved) → Bounded r → Bounded q → codeOf r ≡ codeOf q → r ≡ q
+pub code-injective : (r q : Resolved) → Coded r → Coded q → codeOf r ≡ codeOf q → r ≡ q
 code-injective r q h k e = sym (read-code r h) ∙ ap readCode e ∙ read-code q k
 
 -- ---- a refusal's number negated

@@ -5,6 +5,8 @@ pub mod RecordLaws
 pub mod EntryLaws
 pub mod Bounds
 pub mod CodeLaws
+pub mod NameLaws
+pub mod Named
 pub mod Answered
 pub mod Told
 pub mod MapAnswers

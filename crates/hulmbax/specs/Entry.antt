@@ -10,6 +10,8 @@ use Rattle.frame.specs.Tree.{Value, Schema}
 use Rattle.frame.specs.ValueFrame.{decodeValue}
 use Rattle.frame.specs.SchemaFrame.{decodeSchema}
 use Rattle.frame.specs.Sound.{checkedValue}
+use Rattle.buffer.specs.declared.Answer.{Answer}
+use Rattle.buffer.specs.declared.Answer.the-variants as A
 use Rattle.hulmbax.specs.Answer.{checkedSchema}
 use Rattle.hulmbax.specs.declared.Resolved.{Resolved}
 use Rattle.hulmbax.specs.declared.Resolved.the-variants.{Accepted, Refused}
@@ -48,6 +50,16 @@ readCode (negsuc k) = Refused (suc k)
 unfoldable pub Bounded : Resolved → Type 0
 Bounded (Accepted n) = (1 ≤ n) × (n ≤ 65535)
 Bounded (Refused e) = (1 ≤ e) × (e ≤ 18)
+
+-- what a code can tell: a length that it can hold, and a refusal's number, which is not 0
+unfoldable pub Coded : Resolved → Type 0
+Coded (Accepted n) = n ≤ 65535
+Coded (Refused e) = 1 ≤ e
+
+-- a step's answer as the entry's
+unfoldable pub entryOf : Answer → Resolved
+entryOf (A.Accepted n) = Accepted n
+entryOf (A.Refused e) = Refused e
 
 -- how much of the workspace is cleared without a look: the result, and 4,096 bytes in any case
 unfoldable pub usedFor : Resolved → ℕ

@@ -1,4 +1,4 @@
-// The public entry: a record brought to a reader schema.
+// The public entries: a record brought to a reader schema, and the current finish of each sail. All entries for C are here.
 use base::refusal;
 use buffer::Answer;
 use frame::Verdict;
@@ -12,7 +12,8 @@ ghost use Rattle.frame.specs.Sound.{checkedValue};
 ghost use Rattle.buffer.specs.After.{bufferAfter, codeFor};
 ghost use Rattle.instants.specs.Frames.{civilFor, dateFor, sumFor, heldFor, heldCode};
 ghost use Rattle.hulmbax.specs.Answer.{answer, answerFor, checkedSchema, recordAnswer, workspaceAfter};
-ghost use Rattle.hulmbax.specs.Entry.{Bounded, PassedSchema, PassedValue, codeOf, resolvedOf, stopOf, usedFor};
+ghost use Rattle.hulmbax.specs.Entry.{Coded, PassedSchema, PassedValue, codeOf, entryOf, resolvedOf, stopOf, usedFor};
+ghost use Rattle.hulmbax.specs.Names.{names};
 
 // A result of so many bytes, or the number of what stopped the record.
 pub enum Resolved {
@@ -131,7 +132,7 @@ pub fn resolve(schema: &[u8], record: &[u8], result: &mut [u8], workspace: &mut 
 
 // The answer as one signed number for C: the length of an accepted result, or the refusal's number negated.
 fn code(r: Resolved) -> i32
-    requires { ⌜ Bounded r ⌝ }
+    requires { ⌜ Coded r ⌝ }
     ensures { λ n. ⌜ n ≡ codeOf r ⌝ }
 {
     match r {
@@ -153,6 +154,48 @@ pub extern "C" fn hulmbax_resolve(
     ensures cleared { λ _. ⌜ now (workspace .exit) ≡ workspaceAfter (answer (now (schema .entry)) (now («record» .entry)) (length (now (result .entry))) (length (now (workspace .entry)))) (now (workspace .entry)) ⌝ }
 {
     code(resolve(schema, record, result, workspace))
+}
+
+// ---- a corrected finish supersedes the first one (docs/RULES.md, "Corrected finishes")
+
+// What a step answered, as the entry does.
+fn entry_of(a: Answer) -> Resolved
+    ensures { λ r. ⌜ r ≡ entryOf a ⌝ }
+{
+    match a {
+        Answer::Accepted(n) => Resolved::Accepted(n),
+        Answer::Refused(e) => Resolved::Refused(e),
+    }
+}
+
+// The place of the current frame of each sail, one byte each, in the order in which sails first appear. Frame i of the input goes from
+// the end before it, 0 at first, to `ends[i]`.
+pub fn current(input: &[u8], ends: &[usize], result: &mut [u8], workspace: &mut [u8]) -> Resolved
+    ensures answer { λ r. ⌜ r ≡ resolvedOf (names (now (input .entry)) (now (ends .entry)) (length (now (result .entry))) (length (now (workspace .entry)))) ⌝ }
+    ensures contents { λ _. ⌜ now (result .exit) ≡ bufferAfter (names (now (input .entry)) (now (ends .entry)) (length (now (result .entry))) (length (now (workspace .entry)))) (now (result .entry)) ⌝ }
+    ensures cleared { λ _. ⌜ now (workspace .exit) ≡ workspaceAfter (names (now (input .entry)) (now (ends .entry)) (length (now (result .entry))) (length (now (workspace .entry)))) (now (workspace .entry)) ⌝ }
+{
+    if workspace.len() < 65536 {
+        return Resolved::Refused(refusal::WORKSPACE_TOO_SHORT);
+    }
+    let told = corrections::current(input, ends, result);
+    buffer::clear(&mut workspace[..65536], 0);
+    entry_of(told)
+}
+
+// The same entry for C and Rust: what `current` does, and its answer as one number.
+#[no_mangle]
+pub extern "C" fn hulmbax_current(
+    input: &[u8],
+    ends: &[usize],
+    result: &mut [u8],
+    workspace: &mut [u8],
+) -> i32
+    ensures answer { λ r. ⌜ r ≡ codeOf (resolvedOf (names (now (input .entry)) (now (ends .entry)) (length (now (result .entry))) (length (now (workspace .entry))))) ⌝ }
+    ensures contents { λ _. ⌜ now (result .exit) ≡ bufferAfter (names (now (input .entry)) (now (ends .entry)) (length (now (result .entry))) (length (now (workspace .entry)))) (now (result .entry)) ⌝ }
+    ensures cleared { λ _. ⌜ now (workspace .exit) ≡ workspaceAfter (names (now (input .entry)) (now (ends .entry)) (length (now (result .entry))) (length (now (workspace .entry)))) (now (workspace .entry)) ⌝ }
+{
+    code(current(input, ends, result, workspace))
 }
 
 // ---- the calendar's entries for C (docs/RULES.md, "Dates and instants"); `calendar` has them by value

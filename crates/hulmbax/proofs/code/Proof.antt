@@ -4,7 +4,7 @@ use native.Mathlib.Omega.{arith}
 use mir.Syntax.{w32}
 use mir.ValLaws.{toZ-pos}
 use borrow.Author.Needs.{needs}
-use Rattle.hulmbax.specs.Entry.{Bounded, codeOf}
+use Rattle.hulmbax.specs.Entry.{Coded, codeOf}
 use Rattle.hulmbax.proofs.CodeLaws.{minus-fits, minus-is}
 use Rattle.hulmbax.proofs.code.Statement.{statement}
 use Rattle.hulmbax.proofs.code.Tie as tie
@@ -15,8 +15,8 @@ enum-known-r : tie.Need-enum-known-r
 enum-known-r c = search needs
 
 cast-result : tie.Need-cast-result
-unfolding Bounded
-cast-result c = record { sfits = omega (arith, subst Bounded (c .before .r .given .1) (c .before .before .before .pre)) }
+unfolding Coded
+cast-result c = record { sfits = omega (arith, subst Coded (c .before .r .given .1) (c .before .before .before .pre)) }
 
 enum-known-r-2 : tie.Need-enum-known-r-2
 enum-known-r-2 c = search needs
@@ -28,8 +28,8 @@ sub-result : tie.Need-sub-result
 sub-result c = minus-fits (c .before .r2 .given .0 .0) (omega (arith, c .known-told2 .given))
 
 returns : tie.Need-returns
-unfolding codeOf Bounded
-returns c = toZ-pos w32 (c .before .r .given .0 .0) (omega (arith, subst Bounded (c .before .r .given .1) (c .before .before .before .pre))) ∙ sym (ap codeOf (c .before .r .given .1))
+unfolding codeOf Coded
+returns c = toZ-pos w32 (c .before .r .given .0 .0) (omega (arith, subst Coded (c .before .r .given .1) (c .before .before .before .pre))) ∙ sym (ap codeOf (c .before .r .given .1))
 
 returns-2 : tie.Need-returns-2
 unfolding codeOf

@@ -3,8 +3,8 @@ use mathlib.Core.Path.{sym, ap, subst, _∙_}
 use mir.Syntax.{w32}
 use mir.ValLaws.{toZ-ofZ}
 use borrow.Author.Needs.{needs}
-use Rattle.hulmbax.specs.Entry.{Bounded, codeOf}
-use Rattle.hulmbax.proofs.CodeLaws.{answer-bounded}
+use Rattle.hulmbax.specs.Entry.{Coded, codeOf}
+use Rattle.hulmbax.proofs.CodeLaws.{answer-bounded, bounded-coded}
 use Rattle.hulmbax.proofs.hulmbax_resolve.Statement.{statement}
 use Rattle.hulmbax.proofs.hulmbax_resolve.Tie as tie
 use Rattle.hulmbax.proofs.hulmbax_resolve.Reads as reads
@@ -16,7 +16,7 @@ resolve-requires : tie.Need-resolve-requires
 resolve-requires c κs = search needs
 
 code-requires : tie.Need-code-requires
-code-requires c κs = subst Bounded (sym (c .before .before .before .before .resolve .ensures .0)) (answer-bounded _ _ _ _)
+code-requires c κs = subst Coded (sym (c .before .before .before .before .resolve .ensures .0)) (bounded-coded _ (answer-bounded _ _ _ _))
 
 same-length : tie.Need-same-length
 same-length c = search needs
