@@ -1,5 +1,5 @@
-/* The C interface of Hulmbax: brings an Avro record to a reader schema, and has a calendar over Avro's
- * dates and timestamps.
+/* The C interface of Hulmbax: brings an Avro record to a reader schema, names the current finish of each
+ * boat where crews corrected some, and has a calendar over Avro's dates and timestamps.
  *
  * Link with libhulmbax.a, which `rt staticlib hulmbax` writes to target/staticlib/ (x86-64 Linux).
  * docs/RULES.md at the top of the repository has every rule: the bytes of a frame, the order of the
@@ -25,11 +25,15 @@ extern "C" {
 #define HULMBAX_MAX_FRAME 65535
 #define HULMBAX_MAX_DEPTH 16
 
-/* The bytes of workspace that a call of hulmbax_resolve needs. */
+/* The bytes of workspace that a call of hulmbax_resolve or hulmbax_current needs. */
 #define HULMBAX_WORKSPACE_LEN 65536
 
 /* The length of a result buffer into which every result of hulmbax_resolve fits. */
 #define HULMBAX_RESULT_LEN 65535
+
+/* The most frames that a call of hulmbax_current takes. A result buffer of as many bytes is long enough
+ * for every answer of it. */
+#define HULMBAX_MAX_FINISHES 256
 
 /* The length of a result buffer into which every sum of hulmbax_add fits. */
 #define HULMBAX_SUM_LEN 9
@@ -64,10 +68,11 @@ enum hulmbax_kind {
     HULMBAX_KIND_DURATION = 0x19
 };
 
-/* What stops a record, or what is asked of the calendar. An entry answers the number below zero. The
- * numbers are those of docs/RULES.md. hulmbax_resolve gives 1 to 18, in their checking order; of a map's
- * failing entries the first by its key gives the number. The entries of the calendar give 5, 6, 18, 26
- * and 27; each says which, and in what order. */
+/* What stops a record, a list of finishes, or what is asked of the calendar. An entry answers the number
+ * below zero. The numbers are those of docs/RULES.md: 1 to 18, 23, 24, 26 and 27. hulmbax_resolve gives 1
+ * to 18, in their checking order; of a map's failing entries the first by its key gives the number.
+ * hulmbax_current gives 1, 23, 24 and 18, in this order. The entries of the calendar give 5, 6, 18, 26 and
+ * 27; each says which, and in what order. */
 enum hulmbax_refusal {
     HULMBAX_WORKSPACE_TOO_SHORT = 1,      /* the workspace is shorter than 65,536 bytes */
     HULMBAX_SCHEMA_NO_FRAME = 2,          /* the schema is no frame */
@@ -87,6 +92,8 @@ enum hulmbax_refusal {
     HULMBAX_NO_VARIANT = 16,              /* no variant of a union accepts */
     HULMBAX_FIELD_MISSING = 17,           /* a field is missing without default */
     HULMBAX_RESULT_TOO_LONG = 18,         /* the accepted result exceeds 65,535 bytes or the buffer */
+    HULMBAX_TOO_MANY_FRAMES = 23,         /* the list has more than 256 frames */
+    HULMBAX_NO_FINISH = 24,               /* one of the list is no frame, no record, or lacks its sail or seq */
     HULMBAX_MILLIS_ON_DATE = 26,          /* milliseconds other than zero are added to a Date */
     HULMBAX_OUTSIDE_CALENDAR = 27         /* the day isn't in the calendar, or a result leaves its kind's range */
 };
@@ -133,6 +140,10 @@ static inline const char *hulmbax_refusal_text(int32_t refusal)
         return "the record lacks a field for which the schema has no default";
     case HULMBAX_RESULT_TOO_LONG:
         return "the result doesn't fit: it is longer than the result buffer or than 65,535 bytes";
+    case HULMBAX_TOO_MANY_FRAMES:
+        return "the list of finishes has more than 256 frames";
+    case HULMBAX_NO_FINISH:
+        return "a frame in the list is no finish: it is broken or no record, or it lacks a sail that is a String or a seq that is a Long";
     case HULMBAX_MILLIS_ON_DATE:
         return "a duration with milliseconds is added to a date, which has whole days only";
     case HULMBAX_OUTSIDE_CALENDAR:
@@ -170,6 +181,49 @@ static inline const char *hulmbax_refusal_text(int32_t refusal)
  */
 int32_t hulmbax_resolve(const uint8_t *schema, size_t schema_len,
                         const uint8_t *record, size_t record_len,
+                        uint8_t *result, size_t result_len,
+                        uint8_t *workspace, size_t workspace_len);
+
+/* Names the current finish of each boat, where crews corrected a finish by entering it again.
+ *
+ * The list is of frames that are records, with a String in the field sail and a Long in the field seq, as
+ * hulmbax_resolve gives them under a schema that has both. Of the frames of a sail the one with the
+ * greatest seq is current, and of those with an equal seq the first. A seq below zero is less than 0. Two
+ * sails are the same where their bytes are. Of a field whose name repeats in a record, the last counts.
+ * One frame is named for each sail, so for a sheet of several races it is asked once for each race.
+ *
+ * The frames stand one behind another in input, and ends says where each ends: the first goes from 0 to
+ * before ends[0], the next from there to before ends[1], and so on. There are ends_len of them. The bytes
+ * behind the last end are not looked at.
+ *
+ * Answers n, 0 to 256: there are n sails, and the first n bytes of result are the places of their current
+ * frames in the list, from 0, in the order in which the sails first appear; the bytes after them are as
+ * they were. An empty list gives 0. Or answers -k, and result is as it was. In checking order: -1, the
+ * workspace is too short; -23, there are more than 256 frames, of which none is read then; -24, one of
+ * them is no frame (one that hulmbax_resolve stops with 5, or whose end lies past the input or before its
+ * start), is no record, lacks one of the two fields or has another kind in it; -18, result is shorter
+ * than n.
+ *
+ * No Union is taken off, so one around a record, its sail or its seq gives -24, and so do a Map in place
+ * of a record and an Int in seq. Under a reader schema in which sail is nullable every result has a Union
+ * around its sail, so every call with such results gives -24.
+ *
+ * The workspace must have HULMBAX_WORKSPACE_LEN bytes. Except after -1 the first 65,536 of them are zero
+ * after the call; the others, and all of them after -1, are as they were.
+ *
+ * What the caller owes is what hulmbax_resolve's owes:
+ * - Each pointer points to as many bytes, or numbers, as the length after it says. None is null, not even
+ *   where the length is 0.
+ * - The bytes of input and workspace and the numbers of ends have been set before the call; to what,
+ *   nothing is asked. Those of result need not be set.
+ * - Result and workspace overlap nothing else that is handed over.
+ * - Nobody else writes any of the four during the call.
+ *
+ * It keeps no pointer, has no state and allocates nothing. A thread that has the stack for
+ * hulmbax_resolve has enough for it.
+ */
+int32_t hulmbax_current(const uint8_t *input, size_t input_len,
+                        const size_t *ends, size_t ends_len,
                         uint8_t *result, size_t result_len,
                         uint8_t *workspace, size_t workspace_len);
 

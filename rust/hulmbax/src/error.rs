@@ -3,20 +3,22 @@ use crate::frame::FrameError;
 use crate::{Path, Refusal};
 use std::fmt;
 
-/// Why a schema was not taken, a record not brought to it, or an instant not taken by the calendar.
+/// Why a schema was not taken, a record not brought to it, a list not one of finishes, or an instant
+/// not taken by the calendar.
 #[derive(Clone, Debug, PartialEq, Eq)]
 #[non_exhaustive]
 pub enum Error {
     /// A value or a schema has no frame, bytes are no frame, or variants make no union. The
     /// library was not asked.
     Frame(FrameError),
-    /// The library refused the schema, the record, or what its calendar was asked.
+    /// The library refused the schema, the record, the list of finishes, or what its calendar was
+    /// asked.
     #[non_exhaustive]
     Refused {
         /// The library's answer.
         refusal: Refusal,
         /// Where in the record it arose or, for a schema that was refused by itself, where in the
-        /// schema; the root where the calendar was asked.
+        /// schema; of a list, which one is no finish; the root where the calendar was asked.
         path: Path,
         /// Why the only variant other than Null didn't take the value, for a
         /// [`Refusal::NoVariant`] in a union that has no other. It is the error's

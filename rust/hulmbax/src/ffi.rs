@@ -5,11 +5,15 @@
 use crate::frame::MAX_FRAME;
 use crate::Refusal;
 
-/// The bytes of workspace that a call of [`resolve`] needs.
+/// The bytes of workspace that a call of [`resolve`] or [`current`] needs.
 pub const WORKSPACE_LEN: usize = 65_536;
 
 /// The length of a result buffer into which every result of [`resolve`] fits.
 pub const RESULT_LEN: usize = MAX_FRAME;
+
+/// The most frames that a call of [`current`] takes. A result buffer of as many bytes is long enough
+/// for every answer of it.
+pub const MAX_FINISHES: usize = 256;
 
 /// The length of a result buffer into which every sum of [`add`] fits.
 pub const SUM_LEN: usize = 9;
@@ -74,6 +78,83 @@ pub fn resolve(
         )
     };
     number(answer, 1..=result.len())
+}
+
+/// Names the current finish of each boat in a list of frames; [`current`](crate::current) at the
+/// top of the crate says which that is.
+///
+/// The frames stand one behind another in `input`, and `ends` says where each ends: the first goes
+/// from 0 to before `ends[0]`, the next from there to before `ends[1]`, and so on. The bytes behind
+/// the last end are not looked at.
+///
+/// `Ok(n)`: there are n boats, and the first n bytes of `result` are the places of their current
+/// frames in the list, from 0, in the order in which the boats first appear; the bytes after them
+/// are as they were. An empty list gives 0. A buffer of [`MAX_FINISHES`] bytes is always long enough.
+///
+/// The workspace must have [`WORKSPACE_LEN`] bytes. These are zero after the call, whatever it
+/// answers, and the bytes after them are as they were.
+///
+/// ```
+/// use hulmbax::frame::{current, MAX_FINISHES, WORKSPACE_LEN};
+/// use hulmbax::Value;
+///
+/// // two boats, and the first one again
+/// let (mut input, mut ends) = (Vec::new(), Vec::new());
+/// for (sail, seq) in [("A 12", 0), ("B 7", 0), ("A 12", 1)] {
+///     let finish = Value::record([("sail", Value::from(sail)), ("seq", Value::Long(seq))]);
+///     input.extend(finish.to_frame()?);
+///     ends.push(input.len());
+/// }
+/// let mut places = [0; MAX_FINISHES];
+/// let n = current(&input, &ends, &mut places, &mut vec![0; WORKSPACE_LEN])?;
+/// assert_eq!(places[..n], [2, 1]);
+/// # Ok::<(), hulmbax::Error>(())
+/// ```
+///
+/// # Errors
+///
+/// In the order in which they are looked for; `result` is then as it was, and so is a workspace that
+/// is too short:
+///
+/// - [`Refusal::WorkspaceTooShort`]: the workspace is shorter than [`WORKSPACE_LEN`] bytes.
+/// - [`Refusal::TooManyFrames`]: there are more than [`MAX_FINISHES`] frames; none of them is read.
+/// - [`Refusal::NoFinish`]: one of them is no frame (its end may lie past the input, or before its
+///   start), is no Record, lacks the field `sail` or `seq`, or has another kind in it than a String
+///   or a Long.
+/// - [`Refusal::ResultTooLong`]: `result` is shorter than n.
+pub fn current(
+    input: &[u8],
+    ends: &[usize],
+    result: &mut [u8],
+    workspace: &mut [u8],
+) -> Result<usize, Refusal> {
+    extern "C" {
+        fn hulmbax_current(
+            input: *const u8,
+            input_len: usize,
+            ends: *const usize,
+            ends_len: usize,
+            result: *mut u8,
+            result_len: usize,
+            workspace: *mut u8,
+            workspace_len: usize,
+        ) -> i32;
+    }
+    // SAFETY: as in `resolve`; the ends may be any numbers, for the library looks at nothing outside
+    // the four slices.
+    let answer = unsafe {
+        hulmbax_current(
+            input.as_ptr(),
+            input.len(),
+            ends.as_ptr(),
+            ends.len(),
+            result.as_mut_ptr(),
+            result.len(),
+            workspace.as_mut_ptr(),
+            workspace.len(),
+        )
+    };
+    number(answer, 0..=result.len().min(ends.len()))
 }
 
 /// The year, month and day of a Date into the first three slots; the others are as they were.
@@ -237,7 +318,7 @@ mod tests {
 
     #[test]
     fn nothing_else_is_taken_for_an_answer() {
-        for answer in [0, 6, i32::MAX, -19, -25, -28, -257, i32::MIN] {
+        for answer in [0, 6, i32::MAX, -19, -22, -25, -28, -257, i32::MIN] {
             let taken = std::panic::catch_unwind(|| number(answer, 1..=5));
             assert!(taken.is_err(), "{answer}");
         }

@@ -33,6 +33,20 @@
 //! The names are those of apache-avro, where it has them; module [`apache_avro`] has the code that
 //! maps that crate's values and schemas onto these. Module [`frame`] is the byte level below.
 //!
+//! # Corrections
+//!
+//! Crews correct a finish by entering it again, with a greater `seq`. [`current`] names the finish of
+//! each boat that counts, by its place in the list:
+//!
+//! ```
+//! use hulmbax::{current, Value};
+//!
+//! let finish = |sail: &str, seq: i64| Value::record([("sail", sail.into()), ("seq", seq.into())]);
+//! let race = [finish("A 12", 0), finish("B 7", 0), finish("A 12", 2), finish("A 12", 1)];
+//! assert_eq!(current(&race)?, [2, 1]);
+//! # Ok::<(), hulmbax::Error>(())
+//! ```
+//!
 //! # Calendar
 //!
 //! Module [`calendar`] has the days of Dates, adds a [`Duration`] to a Date or a timestamp, and tells
@@ -64,6 +78,7 @@
 #![warn(missing_debug_implementations)]
 
 pub mod calendar;
+mod corrections;
 mod error;
 mod ffi;
 pub mod frame;
@@ -83,6 +98,7 @@ pub mod apache_avro {}
 #[doc = include_str!("../README.md")]
 struct Readme;
 
+pub use corrections::current;
 pub use error::Error;
 pub use path::Path;
 pub use reader::Reader;

@@ -14,6 +14,8 @@ enum Of {
     Content,
     /// The length of the result.
     Room,
+    /// A list of finishes.
+    Finishes,
     /// A day or an instant of the calendar.
     Calendar,
 }
@@ -22,11 +24,13 @@ enum Of {
 macro_rules! refusals {
     ($($(#[$doc:meta])* $name:ident = $number:literal, $of:ident, $sentence:literal;)*) => {
         /// The library's answer to a schema that it doesn't take, to a record that it doesn't
-        /// bring to the schema, or to a day or instant that its calendar doesn't take.
+        /// bring to the schema, to a list that isn't of finishes, or to a day or instant that its
+        /// calendar doesn't take.
         ///
         /// The numbers are those of docs/RULES.md. A record gets 1 to 18, which the library
         /// looks for in their order; of a map's failing entries the first by its key gives the
-        /// refusal. The calendar gives 5, 6, 26, 27 and 18, in this order.
+        /// refusal. A list of finishes gets 1, 23, 24 and 18, in this order. The calendar gives
+        /// 5, 6, 26, 27 and 18, in this order.
         #[derive(Clone, Copy, Debug, PartialEq, Eq, PartialOrd, Ord, Hash)]
         #[repr(u8)]
         #[non_exhaustive]
@@ -108,6 +112,13 @@ refusals! {
     /// 18: the accepted result exceeds 65,535 bytes or the result buffer.
     ResultTooLong = 18, Room, "the result doesn't fit: it is longer than the result buffer or than 65,535 bytes";
 
+    /// 23: the list has more than 256 frames.
+    TooManyFrames = 23, Finishes, "the list of finishes has more than 256 frames";
+
+    /// 24: one of the list is no frame, no Record, lacks the field `sail` or `seq`, or has another
+    /// kind in it than a String or a Long.
+    NoFinish = 24, Finishes, "a frame in the list is no finish: it is broken or no record, or it lacks a sail that is a String or a seq that is a Long";
+
     /// 26: milliseconds other than zero are added to a Date.
     MillisOnDate = 26, Calendar, "a duration with milliseconds is added to a date, which has whole days only";
 
@@ -163,9 +174,9 @@ impl std::error::Error for Refusal {}
 mod tests {
     use super::*;
 
-    // Those of records, and those of the calendar.
+    // Those of records, those of a list of finishes, and those of the calendar.
     fn numbers() -> Vec<u8> {
-        (1..=18).chain([26, 27]).collect()
+        (1..=18).chain([23, 24]).chain([26, 27]).collect()
     }
 
     #[test]

@@ -5,74 +5,30 @@
 //!     cargo run --example series -- write    # writes series.txt, series.out and series.md anew
 
 mod clubs;
-mod finish;
+#[path = "../shared/mod.rs"]
+mod shared;
 mod sheet;
 mod twin;
 
-use hulmbax::{hex, Error, Reader, Schema, Value};
-use std::{env, fs};
-
-/// The folder of the shipped series.
-const FOLDER: &str = concat!(env!("CARGO_MANIFEST_DIR"), "/../../examples/");
-
-type Any<T> = Result<T, Box<dyn std::error::Error>>;
-
-/// A record of the input, and what the sheet gets from it.
-pub struct Line {
-    /// Its place in the input, from 1; the schema is line 1.
-    number: usize,
-    sent: Value,
-    answer: Result<Value, Error>,
-}
+use shared::{files, line, Any};
 
 fn main() -> Any<()> {
-    match env::args().nth(1).as_deref() {
-        None => print!("{}", sheet::sheet(&lines(&read("series.txt")?)?)?),
-        Some("write") => {
-            for (name, content) in twin::files()? {
-                fs::write(format!("{FOLDER}{name}"), content)?;
-            }
-        }
-        Some(other) => return Err(format!("{other}: the only argument is `write`").into()),
-    }
-    Ok(())
+    files::run(shown, twin::files)
 }
 
-fn read(name: &str) -> Any<String> {
-    fs::read_to_string(format!("{FOLDER}{name}")).map_err(|e| format!("{FOLDER}{name}: {e}").into())
-}
-
-/// Resolves the lines of an input of program `resolve`: the schema, then records.
-fn lines(input: &str) -> Any<Vec<Line>> {
-    let mut frames = input.lines().map(frame);
-    let schema = frames.next().ok_or("the input has no schema")??;
-    let mut reader = Reader::new(&Schema::from_frame(&schema)?)?;
-    let mut lines = Vec::new();
-    for (number, record) in (2..).zip(frames) {
-        let sent = Value::from_frame(&record?)?;
-        let answer = reader.resolve(&sent);
-        lines.push(Line {
-            number,
-            sent,
-            answer,
-        });
-    }
-    Ok(lines)
-}
-
-fn frame(line: &str) -> Any<Vec<u8>> {
-    hex::decode(line).ok_or_else(|| format!("not hexadecimal: {line}").into())
+fn shown() -> Any<String> {
+    let (_, lines) = line::resolve(&files::read("series.txt")?)?;
+    sheet::sheet(&lines)
 }
 
 #[cfg(test)]
 mod tests {
     use super::*;
+    use hulmbax::Reader;
 
     #[test]
     fn the_shipped_files_are_what_this_program_writes() {
-        for (name, content) in twin::files().unwrap() {
-            assert_eq!(read(name).unwrap(), content, "{name}: run it with `write`");
-        }
+        files::assert_shipped(twin::files().unwrap());
     }
 
     // A record that fits the schema that it was written under resolves to itself; by frames, since

@@ -1,15 +1,15 @@
 //! The sheet: who finished each race, at what corrected time, and the points of the series.
 
-use crate::finish::{self, Finish, Pending};
-use crate::{Any, Line};
-use std::collections::{BTreeMap, BTreeSet};
+use crate::shared::line::Line;
+use crate::shared::series::{Got, Series};
+use crate::shared::Any;
+use std::collections::BTreeMap;
 
 /// The sheet in words. Low points: a boat's place, or one more than the boats of the series where
 /// it has none. A boat whose record was refused is pending: it gets no points for that race, and
 /// stands below those whose points are final.
 pub fn sheet(lines: &[Line]) -> Any<String> {
-    let (finishes, pending) = finish::read(lines)?;
-    let series = Series { finishes, pending };
+    let series = Series::of(lines)?;
     let mut totals: BTreeMap<&str, Total> = BTreeMap::new();
     let mut out = String::new();
     for race in series.races() {
@@ -26,118 +26,11 @@ pub fn sheet(lines: &[Line]) -> Any<String> {
     Ok(out + &series_points(totals) + &series.pending_list())
 }
 
-struct Series {
-    finishes: Vec<Finish>,
-    pending: Vec<Pending>,
-}
-
-/// What a boat has of a race.
-#[derive(Clone, Copy, PartialEq)]
-enum Got {
-    /// A corrected time in seconds.
-    Time(f64),
-    NoFinish,
-    Pending,
-}
-
-/// What a boat gets in a race.
-struct Place<'a> {
-    sail: &'a str,
-    got: Got,
-    points: usize,
-}
-
 /// What a boat has of the series.
 #[derive(Default)]
 struct Total {
     points: usize,
     pending: Vec<i32>,
-}
-
-impl Series {
-    fn boats(&self) -> BTreeSet<&str> {
-        let finished = self.finishes.iter().map(|f| f.sail.as_str());
-        let pending = self.pending.iter().filter_map(|p| p.sail.as_deref());
-        finished.chain(pending).collect()
-    }
-
-    fn races(&self) -> BTreeSet<i32> {
-        let finished = self.finishes.iter().map(|f| f.race);
-        let pending = self.pending.iter().filter_map(|p| p.race);
-        finished.chain(pending).collect()
-    }
-
-    // While a record is pending, the places may still change.
-    fn heading(&self, race: i32) -> String {
-        match self.pending.iter().filter(|p| p.race == Some(race)).count() {
-            0 => format!("Race {race}, corrected times\n"),
-            n => format!("Race {race}, corrected times, {n} pending\n"),
-        }
-    }
-
-    fn got(&self, sail: &str, race: i32) -> Got {
-        let is_of = |s: &str, r| s == sail && r == race;
-        let mut sent = self.finishes.iter().filter(|f| is_of(&f.sail, f.race));
-        let mut pending = self.pending.iter();
-        match sent.next().map(Finish::corrected) {
-            Some(Some(seconds)) => Got::Time(seconds),
-            Some(None) => Got::NoFinish,
-            None if pending.any(|p| p.sail.as_deref() == Some(sail) && p.race == Some(race)) => {
-                Got::Pending
-            }
-            None => Got::NoFinish,
-        }
-    }
-
-    // Each boat of the series in the race, in order.
-    fn places(&self, race: i32) -> Vec<Place<'_>> {
-        let boats = self.boats();
-        let got: Vec<Got> = boats.iter().map(|sail| self.got(sail, race)).collect();
-        let earlier = |than: f64| {
-            let times = got
-                .iter()
-                .filter(|got| matches!(got, Got::Time(t) if *t < than));
-            times.count()
-        };
-        let points = |got| match got {
-            Got::Time(seconds) => 1 + earlier(seconds),
-            Got::NoFinish => boats.len() + 1,
-            Got::Pending => 0,
-        };
-        let boats_with = boats.iter().zip(&got);
-        let mut places: Vec<Place> = boats_with
-            .map(|(sail, got)| Place {
-                sail,
-                got: *got,
-                points: points(*got),
-            })
-            .collect();
-        places.sort_by_key(|place| (place.got == Got::Pending, place.points));
-        places
-    }
-
-    // What is to be asked for again.
-    fn pending_list(&self) -> String {
-        let line = |p: &Pending| {
-            let boat = p.sail.as_deref().unwrap_or("boat unknown");
-            let race = p
-                .race
-                .map_or("race unknown".to_string(), |r| format!("race {r}"));
-            format!("  {boat}, {race}; {}\n", p.why)
-        };
-        "Pending\n".to_string() + &self.pending.iter().map(line).collect::<String>()
-    }
-}
-
-impl Place<'_> {
-    fn line(&self) -> String {
-        let Place { sail, points, .. } = self;
-        match self.got {
-            Got::Time(seconds) => format!("  {points:2}  {sail:4}  {seconds:.2} s\n"),
-            Got::NoFinish => format!("  {points:2}  {sail:4}  no finish\n"),
-            Got::Pending => format!("   -  {sail:4}  pending\n"),
-        }
-    }
 }
 
 fn series_points(totals: BTreeMap<&str, Total>) -> String {

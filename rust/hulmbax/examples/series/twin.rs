@@ -1,7 +1,9 @@
 //! The files of the series: frames for program `resolve`, what it writes, and both in words.
 
-use crate::{clubs, lines, sheet, Any, Line};
-use hulmbax::{hex, Refusal};
+use crate::shared::files::Files;
+use crate::shared::line::{self, Line};
+use crate::shared::Any;
+use crate::{clubs, sheet};
 
 const HEAD: &str = "# A series of three clubs, in words\n\n\
     What the frames of `series.txt` hold, by its lines, and what the sheet gets from each. \
@@ -9,32 +11,18 @@ const HEAD: &str = "# A series of three clubs, in words\n\n\
     `series.out`; its tests hold all three to it.\n";
 
 /// The name and the content of each file.
-pub fn files() -> Any<[(&'static str, String); 3]> {
-    let input = input()?;
-    let lines = lines(&input)?;
-    let output = lines.iter().map(output_line).collect::<Any<String>>()?;
+pub fn files() -> Any<Files> {
+    let clubs = clubs::clubs()?;
+    let records = clubs.iter().flat_map(|club| &club.records);
+    let input = line::input(&clubs::reader_schema()?, records)?;
+    let (_, lines) = line::resolve(&input)?;
+    let output = lines.iter().map(Line::output).collect::<Any<String>>()?;
     let twin = twin(&lines)?;
-    Ok([
+    Ok(vec![
         ("series.txt", input),
         ("series.out", output),
         ("series.md", twin),
     ])
-}
-
-// The reader schema, then each club's records.
-fn input() -> Any<String> {
-    let mut lines = vec![hex::encode(&clubs::reader_schema()?.to_frame()?)];
-    for record in clubs::clubs()?.iter().flat_map(|club| &club.records) {
-        lines.push(hex::encode(&record.to_frame()?));
-    }
-    Ok(lines.join("\n") + "\n")
-}
-
-fn output_line(line: &Line) -> Any<String> {
-    Ok(match &line.answer {
-        Ok(value) => format!("+ {}\n", hex::encode(&value.to_frame()?)),
-        Err(error) => format!("- {}\n", error.refusal().map_or(0, Refusal::number)),
-    })
 }
 
 fn twin(lines: &[Line]) -> Any<String> {
@@ -46,20 +34,7 @@ fn twin(lines: &[Line]) -> Any<String> {
         out += &format!("Writer schema: {}\n\n", club.schema);
         out += "| Line | What was sent | What the sheet gets |\n|---|---|---|\n";
         let rows = lines_left.by_ref().take(club.records.len());
-        out += &rows.map(row).collect::<String>();
+        out += &rows.map(|line| line.cells() + "\n").collect::<String>();
     }
     Ok(out + &format!("\n## The sheet\n\n```\n{}```\n", sheet::sheet(lines)?))
-}
-
-fn row(
-    Line {
-        number,
-        sent,
-        answer,
-    }: &Line,
-) -> String {
-    match answer {
-        Ok(value) => format!("| {number} | {sent} | {value} |\n"),
-        Err(error) => format!("| {number} | {sent} | pending: {error} |\n"),
-    }
 }

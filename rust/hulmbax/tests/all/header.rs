@@ -1,5 +1,7 @@
 // The C header has the entries, the numbers, the sentences and the version of this crate.
-use hulmbax::frame::{kind, MAX_DEPTH, MAX_FRAME, RESULT_LEN, SUM_LEN, WORKSPACE_LEN};
+use hulmbax::frame::{
+    kind, MAX_DEPTH, MAX_FINISHES, MAX_FRAME, RESULT_LEN, SUM_LEN, WORKSPACE_LEN,
+};
 use hulmbax::{Refusal, Schema};
 
 const HEADER: &str = include_str!("../../../../c/hulmbax.h");
@@ -36,7 +38,8 @@ fn declared<'a>(source: &'a str, start: &str) -> Vec<&'a str> {
 #[test]
 fn every_entry_is_declared() {
     let entries = declared(ENTRIES, "fn hulmbax_");
-    assert_eq!(entries, ["resolve", "civil", "date", "add", "holds"]);
+    let named = ["resolve", "current", "civil", "date", "add", "holds"];
+    assert_eq!(entries, named);
     assert_eq!(declared(HEADER, "int32_t hulmbax_"), entries);
 }
 
@@ -101,6 +104,7 @@ fn the_version_and_the_limits() {
         ("SUM_LEN", SUM_LEN.to_string()),
         ("MAX_FRAME", MAX_FRAME.to_string()),
         ("MAX_DEPTH", MAX_DEPTH.to_string()),
+        ("MAX_FINISHES", MAX_FINISHES.to_string()),
     ];
     for (name, value) in macros {
         let line = format!("#define HULMBAX_{name} {value}\n");

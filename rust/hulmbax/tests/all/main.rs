@@ -3,6 +3,8 @@ mod buffers;
 mod calendar;
 mod calendar_frames;
 mod common;
+mod current;
+mod current_frames;
 mod finishes;
 mod frames;
 mod generate;

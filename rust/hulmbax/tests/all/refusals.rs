@@ -1,5 +1,5 @@
-// A schema and a record for each refusal of docs/RULES.md that stops a record; those of the calendar
-// are in calendar.rs.
+// A schema and a record for each refusal of docs/RULES.md that stops a record; those of a list of
+// finishes are in current.rs, those of the calendar in calendar.rs.
 use crate::common::{decimal, fixed, nullable, record, resolved, symbols};
 use hulmbax::frame::{resolve, RESULT_LEN, WORKSPACE_LEN};
 use hulmbax::schema::{InnerDecimalSchema, UnionSchema, UuidSchema};

@@ -2,8 +2,8 @@
 // the innermost empty, take the most of all shapes that were measured.
 use crate::common::{record, resolved};
 use hulmbax::calendar::{add, holds};
-use hulmbax::frame::MAX_DEPTH;
-use hulmbax::{Duration, Reader, Refusal, Schema, Value};
+use hulmbax::frame::{MAX_DEPTH, MAX_FINISHES};
+use hulmbax::{current, Duration, Reader, Refusal, Schema, Value};
 use std::thread::Builder;
 
 const RECOMMENDED: usize = 256 * 1024;
@@ -62,4 +62,27 @@ fn for_the_calendar() {
     });
     assert_eq!(sum, Err(Refusal::Unsuited.into()));
     assert_eq!(held, Err(Refusal::Unsuited.into()));
+}
+
+// Finishes with the deepest records in a field, as many as a list can have; then one that is no
+// finish behind them, so that each is looked at by itself.
+#[test]
+fn for_a_list_of_finishes() {
+    let nested = (2..MAX_DEPTH).fold(Value::record::<&str>([]), |v, _| Value::record([("f", v)]));
+    let finish = |i: usize| {
+        let sail = format!("A {i}").into();
+        Value::record([
+            ("f", nested.clone()),
+            ("sail", sail),
+            ("seq", Value::Long(0)),
+        ])
+    };
+    let mut list: Vec<Value> = (0..MAX_FINISHES).map(finish).collect();
+    let (accepted, refused) = on_the_recommended_stack(move || {
+        let accepted = current(&list);
+        list[MAX_FINISHES - 1] = Value::Null;
+        (accepted, current(&list))
+    });
+    assert_eq!(accepted, Ok((0..MAX_FINISHES).collect()));
+    assert_eq!(refused.unwrap_err().path().to_string(), "[255]");
 }

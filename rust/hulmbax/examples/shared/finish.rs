@@ -1,6 +1,7 @@
 //! What the sheet reads from a line: a finish, or that it is pending.
 
-use crate::{Any, Line};
+use super::line::Line;
+use super::Any;
 use hulmbax::{Reader, RecordField, Schema, Value};
 
 /// A finish as the reader schema gives it.
@@ -43,7 +44,7 @@ pub struct Pending {
 }
 
 /// The finishes of the lines that were accepted, and what is pending of the others.
-pub fn read(lines: &[Line]) -> Any<(Vec<Finish>, Vec<Pending>)> {
+pub fn read<'a>(lines: impl IntoIterator<Item = &'a Line>) -> Any<(Vec<Finish>, Vec<Pending>)> {
     let mut whose = Reader::new(&whose_schema()?)?;
     let (mut finishes, mut pending) = (Vec::new(), Vec::new());
     for line in lines {
