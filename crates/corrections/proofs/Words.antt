@@ -4,12 +4,12 @@ use mathlib.Core.Path.{_≡_, refl, sym, ap, subst, _∙_}
 use mathlib.Core.Logic.{inl, inr}
 use mathlib.Core.List.{List, [], _∷_, map}
 use mathlib.Core.Option.{Option, none, some}
-use mathlib.Core.Bool.{Bool, true, false}
+use mathlib.Core.Bool.{Bool, true, false, _||_}
 use native.Mathlib.Omega.{arith}
 use lib.Dec.{ltb}
 use lib.ListN.{length, getD, length-map}
 use borrow.Author.Tests.{ltb-true, ltb-false, lt-ltb, le-ltb}
-use Rattle.base.specs.Base.{if_then_else_, Result, stop}
+use Rattle.base.specs.Base.{if_then_else_, Result, ok, stop}
 use Rattle.text.specs.Text.{Text, same}
 use Rattle.text.specs.Read.{_>>=_}
 use Rattle.buffer.specs.After.{checkedResult}
@@ -22,8 +22,8 @@ use Rattle.current.specs.Current.{Finish, beats, without, listedBy, listed}
 use Rattle.current.specs.Claims.{In}
 use Rattle.current.proofs.Rules.{by-seq}
 use Rattle.corrections.specs.Named.{placed, finishes, places, namesOf, namesFor}
-use Rattle.corrections.specs.Claims.{CurrentAt, sailOr, sailIn, AllFinish, Lists, Named}
-use Rattle.corrections.proofs.NamedFrames.{length-finishes, named-current, named-sails, one-current}
+use Rattle.corrections.specs.Claims.{CurrentAt, Reordered, sailOr, sailIn, AllFinish, Lists, Named}
+use Rattle.corrections.proofs.NamedFrames.{length-finishes, named-current, current-named, named-sails, one-current, reordered-current, current-reordered}
 
 -- ---- the list of current frames is the only one that the words admit
 
@@ -182,3 +182,45 @@ module _ (input ends : List ℕ) (buffer : ℕ) where
   named-only _ (Named.no-finish h k l n) = few h ∙ ap (namesOf buffer) (none-read 0 vs k l n)
   named-only _ (Named.no-room h a r l s) = let q = listed-is h a r l in q .0 ∙ checkedResult-short buffer r (q .1) s
   named-only _ (Named.named h a r l s) = let q = listed-is h a r l in q .0 ∙ checkedResult-fits buffer r (q .1) s
+
+-- ---- accepted answers
+
+pub record Accepts (input ends r : List ℕ) : Type 0 where
+  pub all : List Finish
+  pub read : finishes 0 (frames input ends) ≡ some all
+  pub lists : r ≡ places (listed all)
+
+accepted : (input ends : List ℕ) (buffer : ℕ) (r : List ℕ) → namesFor input ends buffer ≡ ok r → Accepts input ends r
+unfolding namesFor namesOf checkedResult
+accepted input ends buffer r e = many (ltb 256 (length ends)) e
+  where
+    room : (fs : List Finish) (b : Bool) → finishes 0 (frames input ends) ≡ some fs → (if b then stop 18 else ok (places (listed fs))) ≡ ok r → Accepts input ends r
+    room fs true q e = let z : _≡_ {A = ℕ} 0 1 = cc in absurd (omega arith)
+    room fs false q e = let s : places (listed fs) ≡ r = cc in record { all = fs; read = q; lists = sym s }
+
+    next : (o : Option (List Finish)) → finishes 0 (frames input ends) ≡ o → namesOf buffer o ≡ ok r → Accepts input ends r
+    next none q e = let z : _≡_ {A = ℕ} 0 1 = cc in absurd (omega arith)
+    next (some fs) q e = room fs (ltb 65535 (length (places (listed fs))) || ltb buffer (length (places (listed fs)))) q e
+
+    many : (b : Bool) → (if b then stop 23 else namesOf buffer (finishes 0 (frames input ends))) ≡ ok r → Accepts input ends r
+    many true e = let z : _≡_ {A = ℕ} 0 1 = cc in absurd (omega arith)
+    many false e = next (finishes 0 (frames input ends)) refl e
+
+-- a place is named exactly where its frame is current
+module _ (input ends : List ℕ) (buffer : ℕ) (r : List ℕ) (e : namesFor input ends buffer ≡ ok r) where
+  whole : Accepts input ends r
+  whole = accepted input ends buffer r e
+
+  pub place-current : (p : ℕ) → In p r → CurrentAt beats (frames input ends) p
+  place-current p h = named-current beats by-seq (frames input ends) (whole .all) (whole .read) p (subst (In p) (whole .lists) h)
+
+  pub current-place : (p : ℕ) → CurrentAt beats (frames input ends) p → In p r
+  current-place p a = subst (In p) (sym (whole .lists)) (current-named beats by-seq (frames input ends) (whole .all) (whole .read) p a)
+
+-- two lists of the same frames, of which those of one sail with equal seqs have the same order: the same frames are named
+module _ (input ends input' ends' : List ℕ) (b b' : ℕ) (r r' : List ℕ) (e : namesFor input ends b ≡ ok r) (e' : namesFor input' ends' b' ≡ ok r') (g h : ℕ → ℕ) (o : Reordered (frames input ends) (frames input' ends') g h) where
+  pub reordered-named : (p : ℕ) → In p r' → In (g p) r
+  reordered-named p i = current-place input ends b r e (g p) (reordered-current beats by-seq (frames input ends) (frames input' ends') g h o p (place-current input' ends' b' r' e' p i))
+
+  pub named-reordered : (p : ℕ) → p < length (frames input' ends') → In (g p) r → In p r'
+  named-reordered p l i = current-place input' ends' b' r' e' p (current-reordered beats by-seq (frames input ends) (frames input' ends') g h o p l (place-current input ends b r e (g p) i))
