@@ -163,8 +163,8 @@ fn entry_of(a: Answer) -> Resolved
     ensures { λ r. ⌜ r ≡ entryOf a ⌝ }
 {
     match a {
-        Answer::Accepted(n) => Resolved::Accepted(n),
-        Answer::Refused(e) => Resolved::Refused(e),
+        Answer::Accepted(length) => Resolved::Accepted(length),
+        Answer::Refused(number) => Resolved::Refused(number),
     }
 }
 
