@@ -8,7 +8,7 @@ use Rattle.corrections.proofs.current.Statement.{statement}
 use Rattle.corrections.proofs.current.Tie as tie
 
 returns : tie.Need-returns
-returns c = many _ _ _ (c .if1 .taken)
+returns c = many _ _ _ (omega (arith, c .if1 .taken))
 
 read-all-requires : tie.Need-read-all-requires
 read-all-requires c κs = search needs

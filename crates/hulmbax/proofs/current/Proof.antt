@@ -1,5 +1,6 @@
 -- `hulmbax::current` meets its contract.
 use borrow.Author.Needs.{needs}
+use native.Mathlib.Omega.{arith}
 use mathlib.Core.Path.{sym}
 use lib.Seq.{length-take-le}
 use Rattle.hulmbax.proofs.NameLaws.{too-short, cleared}
@@ -16,7 +17,7 @@ slice-relend-prefix-clear : tie.Need-slice-relend-prefix-clear
 slice-relend-prefix-clear c = search needs
 
 slice-aggregate-clear : tie.Need-slice-aggregate-clear
-slice-aggregate-clear c = sym (length-take-le 65536 (c .before .before .before .before .before .before .before .before .before .before .args .workspace .now) (c .before .before .before .before .before .if1 .left))
+slice-aggregate-clear c = sym (length-take-le _ (c .before .before .before .before .before .before .before .before .before .before .args .workspace .now) (omega (arith, c .before .before .before .before .before .if1 .left)))
 
 clear-requires : tie.Need-clear-requires
 clear-requires c κs = search needs
