@@ -36,22 +36,30 @@ accepted : (x : Result (List ℕ)) (r b b' : List ℕ) (n : ℕ) → x ≡ ok r 
 unfolding answerOf bufferAfter
 accepted x r b b' n e l q = rw e (ap Accepted l, q)
 
+-- 23, and what follows it
+module _ (input ends : List ℕ) (buffer : ℕ) where
+  abbrev read : Result (List ℕ)
+  read = namesOf buffer (finishes 0 (frames input ends))
+
+  pub names-many : 256 < length ends → namesFor input ends buffer ≡ stop 23
+  unfolding namesFor
+  names-many h = ap (λ (t : Bool). if t then stop 23 else read) (lt-ltb 256 (length ends) h)
+
+  pub names-few : length ends ≤ 256 → namesFor input ends buffer ≡ read
+  unfolding namesFor
+  names-few h = ap (λ (t : Bool). if t then stop 23 else read) (le-ltb 256 (length ends) h)
+
 module _ (input ends b : List ℕ) where
   abbrev answer : Result (List ℕ)
   answer = namesFor input ends (length b)
 
   pub many : 256 < length ends → (Refused 23 ≡ answerOf answer) × (b ≡ bufferAfter answer b)
-  unfolding namesFor
-  many h = stopped answer 23 b (ap (λ (t : Bool). if t then stop 23 else namesOf (length b) (finishes 0 (frames input ends))) (lt-ltb 256 (length ends) h))
+  many h = stopped answer 23 b (names-many input ends (length b) h)
 
   module _ (h : length ends ≤ 256) where
-    few : answer ≡ namesOf (length b) (finishes 0 (frames input ends))
-    unfolding namesFor
-    few = ap (λ (t : Bool). if t then stop 23 else namesOf (length b) (finishes 0 (frames input ends))) (le-ltb 256 (length ends) h)
-
     pub broken : finishes 0 (frames input ends) ≡ none → (Refused 24 ≡ answerOf answer) × (b ≡ bufferAfter answer b)
     unfolding namesOf
-    broken e = stopped answer 24 b (few ∙ ap (namesOf (length b)) e)
+    broken e = stopped answer 24 b (names-few input ends (length b) h ∙ ap (namesOf (length b)) e)
 
     module _ (fs : List Finish) (out : List ℕ) (n : ℕ) (e : finishes 0 (frames input ends) ≡ some fs) (l : (n ≤ length ends) × (length out ≡ 256) × (take n out ≡ places (listed fs))) where
       pub taken : length (take n out) ≡ n
@@ -62,7 +70,7 @@ module _ (input ends b : List ℕ) where
 
       checked : answer ≡ checkedResult (length b) (places (listed fs))
       unfolding namesOf
-      checked = few ∙ ap (namesOf (length b)) e
+      checked = names-few input ends (length b) h ∙ ap (namesOf (length b)) e
 
       pub too-long : length b < n → (Refused 18 ≡ answerOf answer) × (b ≡ bufferAfter answer b)
       too-long g = stopped answer 18 b (checked ∙ checkedResult-short (length b) (places (listed fs)) (omega (arith, long, l .0)) (omega (arith, long)))

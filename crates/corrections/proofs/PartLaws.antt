@@ -12,15 +12,12 @@ use Rattle.lists.proofs.FrameLaws.{frame-there, frame-length, part-of-frame, no
 use Rattle.finishes.specs.Finish.{finishOf, saidIn}
 use Rattle.finishes.specs.Parts.{Within, Says}
 use Rattle.finishes.specs.declared.Entry.the-variants as E
+use Rattle.finishes.proofs.FinishLaws.{broken-says}
 
 pub says-broken : (o : Option (Text × ℕ)) (s : List ℕ) → Says o s E.Broken → o ≡ none
 unfolding Says
 says-broken none s h = refl
 says-broken (some x) s h = absurd h
-
-pub broken-says : (o : Option (Text × ℕ)) (s : List ℕ) → o ≡ none → Says o s E.Broken
-unfolding Says
-broken-says o s e = rw e tt
 
 pub says-of : (o : Option (Text × ℕ)) (s : List ℕ) (a e n : ℕ) → Says o s (E.Of a e n) → (x : Text × ℕ) × ((o ≡ some x) × (Within s (x .0) a e × (x .1 ≡ n)))
 unfolding Says

@@ -96,8 +96,8 @@ front-front fs f none = refl
 front-front fs f (some gs) = ap some (sym (append-assoc fs (f ∷ []) gs))
 
 -- what holds of all below i, and of i, holds of all below i + 1
-below-next : (P : ℕ → Type 0) (i : ℕ) → ((k : ℕ) → k < i → P k) → P i → (k : ℕ) → k < i + 1 → P k
-below-next P i old new k h = go (ltb k i) refl
+one-more : (P : ℕ → Type 0) (i : ℕ) → ((k : ℕ) → k < i → P k) → P i → (k : ℕ) → k < i + 1 → P k
+one-more P i old new k h = go (ltb k i) refl
   where
     go : (b : Bool) → ltb k i ≡ b → P k
     go true q = old k (ltb-true k i q)
@@ -209,7 +209,7 @@ module _ (input ends starts stops hashes seqs : List ℕ) (i from : ℕ) (w : Re
       hashes-size = length-set hashes i sum ∙ w .hashes-size;
       seqs-size = length-set seqs i n ∙ w .seqs-size;
       reads = reads-on;
-      filled = below-next (Stands input starts' stops' hashes') i stays stands;
+      filled = one-more (Stands input starts' stops' hashes') i stays stands;
     }
 
 pub reading-end : (input ends starts stops hashes seqs : List ℕ) (i from : ℕ) → Reading input ends starts stops hashes seqs i from → length ends ≤ i

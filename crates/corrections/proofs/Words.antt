@@ -8,7 +8,7 @@ use mathlib.Core.Bool.{Bool, true, false, _||_}
 use native.Mathlib.Omega.{arith}
 use lib.Dec.{ltb}
 use lib.ListN.{length, getD, length-map}
-use borrow.Author.Tests.{ltb-true, ltb-false, lt-ltb, le-ltb}
+use borrow.Author.Tests.{ltb-true, ltb-false}
 use Rattle.base.specs.Base.{if_then_else_, Result, ok, stop}
 use Rattle.text.specs.Text.{Text, same}
 use Rattle.text.specs.Read.{_>>=_}
@@ -23,6 +23,7 @@ use Rattle.current.specs.Claims.{In}
 use Rattle.current.proofs.Rules.{by-seq}
 use Rattle.corrections.specs.Named.{placed, finishes, places, namesOf, namesFor}
 use Rattle.corrections.specs.Claims.{CurrentAt, Reordered, sailOr, sailIn, AllFinish, Lists, Named}
+use Rattle.corrections.proofs.NameLaws.{names-many, names-few}
 use Rattle.corrections.proofs.NamedFrames.{length-finishes, named-current, current-named, named-sails, one-current, reordered-current, current-reordered}
 
 -- ---- the list of current frames is the only one that the words admit
@@ -165,21 +166,17 @@ module _ (input ends : List ℕ) (buffer : ℕ) where
 
   -- ---- and each of them is the answer
 
-  few : length ends ≤ 256 → namesFor input ends buffer ≡ namesOf buffer (finishes 0 vs)
-  unfolding namesFor
-  few h = ap (λ (b : Bool). if b then stop 23 else namesOf buffer (finishes 0 vs)) (le-ltb 256 (length ends) h)
-
   listed-is : length ends ≤ 256 → (a : AllFinish vs) (r : List ℕ) → Lists beats vs r → (namesFor input ends buffer ≡ checkedResult buffer r) × (length r ≤ 65535)
   unfolding namesOf
   listed-is h a r l =
       let f = all-read 0 vs a in
       let q : places (listed (f .0)) ≡ r = lists-once beats vs (places (listed (f .0))) r (listed-lists vs (f .0) (f .1)) l in
-      (few h ∙ ap (namesOf buffer) (f .1) ∙ ap (checkedResult buffer) q, subst (λ (t : List ℕ). length t ≤ 65535) q (few-places (f .0) h (f .1)))
+      (names-few input ends buffer h ∙ ap (namesOf buffer) (f .1) ∙ ap (checkedResult buffer) q, subst (λ (t : List ℕ). length t ≤ 65535) q (few-places (f .0) h (f .1)))
 
   pub named-only : (x : Result (List ℕ)) → Named input ends buffer x → namesFor input ends buffer ≡ x
   unfolding namesFor namesOf
-  named-only _ (Named.too-many h) = ap (λ (b : Bool). if b then stop 23 else namesOf buffer (finishes 0 vs)) (lt-ltb 256 (length ends) h)
-  named-only _ (Named.no-finish h k l n) = few h ∙ ap (namesOf buffer) (none-read 0 vs k l n)
+  named-only _ (Named.too-many h) = names-many input ends buffer h
+  named-only _ (Named.no-finish h k l n) = names-few input ends buffer h ∙ ap (namesOf buffer) (none-read 0 vs k l n)
   named-only _ (Named.no-room h a r l s) = let q = listed-is h a r l in q .0 ∙ checkedResult-short buffer r (q .1) s
   named-only _ (Named.named h a r l s) = let q = listed-is h a r l in q .0 ∙ checkedResult-fits buffer r (q .1) s
 

@@ -148,14 +148,14 @@ unfolding longAnswer
 long-some none n e = let z : _≡_ {A = ℕ} 0 1 = cc in absurd (omega arith)
 long-some (some m) n e = let f : m ≡ n = cc in ap some f
 
-pub says-broken : (o : Option (Text × ℕ)) (s : List ℕ) → o ≡ none → Says o s E.Broken
+pub broken-says : (o : Option (Text × ℕ)) (s : List ℕ) → o ≡ none → Says o s E.Broken
 unfolding Says
-says-broken o s e = rw e tt
+broken-says o s e = rw e tt
 
 module _ (v : List ℕ) (h : Reads (readValue 16 v)) where
   pub no-sail : stringOf (entryUnder (ascii "sail") (readValue 16 v)) ≡ none → Says (fieldsRead (readValue 16 v)) v E.Broken
   unfolding _>>=_
-  no-sail e = says-broken _ v (fields-are v h ∙ ap (λ (o : Option Text). o >>= (λ x. longOf (entryUnder (ascii "seq") (readValue 16 v)) >>= (λ n. some (x, n)))) e)
+  no-sail e = broken-says _ v (fields-are v h ∙ ap (λ (o : Option Text). o >>= (λ x. longOf (entryUnder (ascii "seq") (readValue 16 v)) >>= (λ n. some (x, n)))) e)
 
   module _ (a e : ℕ) (p : Parted (stringOf (entryUnder (ascii "sail") (readValue 16 v))) v (P.At a e)) where
     step : fieldsRead (readValue 16 v) ≡ (longOf (entryUnder (ascii "seq") (readValue 16 v)) >>= (λ n. some (parted-at _ v a e p .0, n)))
@@ -164,7 +164,7 @@ module _ (v : List ℕ) (h : Reads (readValue 16 v)) where
 
     pub no-seq : longOf (entryUnder (ascii "seq") (readValue 16 v)) ≡ none → Says (fieldsRead (readValue 16 v)) v E.Broken
     unfolding _>>=_
-    no-seq q = says-broken _ v (step ∙ ap (λ (o : Option ℕ). o >>= (λ n. some (parted-at _ v a e p .0, n))) q)
+    no-seq q = broken-says _ v (step ∙ ap (λ (o : Option ℕ). o >>= (λ n. some (parted-at _ v a e p .0, n))) q)
 
     pub both-said : (n : ℕ) → longOf (entryUnder (ascii "seq") (readValue 16 v)) ≡ some n → Says (fieldsRead (readValue 16 v)) v (E.Of a e n)
     unfolding _>>=_ Says

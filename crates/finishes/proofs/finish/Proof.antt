@@ -5,7 +5,7 @@ use borrow.Author.Tests.{not-true, not-false}
 use borrow.Author.Needs.{needs}
 use Rattle.number.proofs.Laws.{getD-allBytes}
 use Rattle.frame.proofs.Passed.{passes-reads}
-use Rattle.finishes.proofs.FinishLaws.{no-frame, frame-long, no-record, is-keyed, a-record, says-broken, says-eq}
+use Rattle.finishes.proofs.FinishLaws.{no-frame, frame-long, no-record, is-keyed, a-record, broken-says, says-eq}
 use Rattle.finishes.proofs.finish.Statement.{statement}
 use Rattle.finishes.proofs.finish.Tie as tie
 
@@ -13,13 +13,13 @@ is-frame-requires : tie.Need-is-frame-requires
 is-frame-requires c κs = search needs
 
 returns : tie.Need-returns
-returns c = says-broken _ _ (no-frame _ (sym (c .before .is-frame .ensures) ∙ not-true _ (c .if1 .taken)))
+returns c = broken-says _ _ (no-frame _ (sym (c .before .is-frame .ensures) ∙ not-true _ (c .if1 .taken)))
 
 shared-slice-read-if2 : tie.Need-shared-slice-read-if2
 shared-slice-read-if2 c = frame-long _ (sym (c .before .before .is-frame .ensures) ∙ not-false _ (c .before .if1 .left))
 
 returns-2 : tie.Need-returns-2
-returns-2 c = says-broken _ _ (no-record _ (sym (c .before .before .before .is-frame .ensures) ∙ not-false _ (c .before .before .if1 .left)) (getD-allBytes (c .before .before .before .before .before .args .v .now) (λ i. omega (arith, c .before .before .before .before .shared-slice-known .given i))) (c .if2 .taken))
+returns-2 c = broken-says _ _ (no-record _ (sym (c .before .before .before .is-frame .ensures) ∙ not-false _ (c .before .before .if1 .left)) (getD-allBytes (c .before .before .before .before .before .args .v .now) (λ i. omega (arith, c .before .before .before .before .shared-slice-known .given i))) (c .if2 .taken))
 
 record-finish-requires : tie.Need-record-finish-requires
 record-finish-requires c κs = (passes-reads _ (sym (c .before .before .before .is-frame .ensures) ∙ not-false _ (c .before .before .if1 .left)), is-keyed _ (c .if2 .left))
