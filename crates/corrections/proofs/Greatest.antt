@@ -1,12 +1,13 @@
--- The greatest seq is current, and with equal ones the earlier frame: seqs as the whole numbers that the frames say.
+-- The greatest seq is current, and with equal ones the later frame: seqs as the whole numbers that the frames say.
 use Prim.Native.Nat.{ℕ, zero, suc, _-_, _<_}
 use mathlib.Core.Path.{_≡_, sym, ap, subst, _∙_}
 use mathlib.Core.List.{List, [], _∷_}
 use mathlib.Core.Option.{Option, some}
 use mathlib.Core.Bool.{Bool, true, false}
-use lib.Dec.{T, ltb}
+use lib.Dec.{T, ltb, leb}
 use lib.IntN.{ℤ}
 use lib.ListN.{length, getD, take, drop}
+use borrow.Author.Tests.{leb-true, leb-false, lt-ltb, le-ltb}
 use Rattle.base.specs.Base.{if_then_else_}
 use Rattle.number.specs.Number.{allBytes}
 use Rattle.number.proofs.Laws.{allBytes-take, allBytes-drop}
@@ -51,7 +52,7 @@ module _ (input ends : List ℕ) (bytes : T (allBytes input)) where
       ap (λ (k : ℕ). ltb k n) (sym (g .seq-is)) ∙ ap (λ (k : ℕ). ltb (rank (number (g .seq))) k) (sym (f .seq-is))
       ∙ rank-order (number (g .seq)) (number (f .seq)) (seq-small (frame q) y m (frames-bytes input 0 ends bytes q) g) (seq-small (frame p) x n (frames-bytes input 0 ends bytes p) f)
 
-  -- each of the sail's frames before the current one has a smaller seq, and each behind it no greater one
+  -- each of the sail's frames before the current one has no greater seq, and each behind it a smaller one
   module _ (p q : ℕ) (x : Text) (n m : ℕ) (a : CurrentAt beats (frames input ends) p) (f : IsFinish (frame p) x n) (g : IsFinish (frame q) x m) (h : q < length (frames input ends)) where
     said : _≡_ {A = Text × ℕ} (a .sail, a .seq) (x, n)
     said = let e : _≡_ {A = Option (Text × ℕ)} (some (a .sail, a .seq)) (some (x, n)) = sym (a .says .1) ∙ finish-said (frame p) x n f in cc
@@ -59,10 +60,13 @@ module _ (input ends : List ℕ) (bytes : T (allBytes input)) where
     other : SaysAt (frames input ends) q (a .sail) m
     other = subst (λ (y : Text). SaysAt (frames input ends) q y m) (sym (ap (λ (t : Text × ℕ). t .0) said)) (h, finish-said (frame q) x m g)
 
-    pub smaller-before : q < p → lessℤ (long g) (long f) ≡ true
-    unfolding beats
-    smaller-before l = sym (by-rank p q x x n m f g) ∙ ap (λ (k : ℕ). ltb m k) (sym (ap (λ (t : Text × ℕ). t .1) said)) ∙ a .earlier q m l other
+    own : a .seq ≡ n
+    own = ap (λ (t : Text × ℕ). t .1) said
 
-    pub no-greater-behind : p < q → lessℤ (long f) (long g) ≡ false
+    pub no-greater-before : q < p → lessℤ (long f) (long g) ≡ false
     unfolding beats
-    no-greater-behind l = sym (by-rank q p x x m n g f) ∙ ap (λ (k : ℕ). ltb k m) (sym (ap (λ (t : Text × ℕ). t .1) said)) ∙ a .later q m l other
+    no-greater-before l = sym (by-rank q p x x m n g f) ∙ le-ltb n m (leb-true m n (ap (leb m) (sym own) ∙ a .earlier q m l other))
+
+    pub smaller-behind : p < q → lessℤ (long g) (long f) ≡ true
+    unfolding beats
+    smaller-behind l = sym (by-rank p q x x n m f g) ∙ lt-ltb m n (leb-false n m (ap (λ (k : ℕ). leb k m) (sym own) ∙ a .later q m l other))

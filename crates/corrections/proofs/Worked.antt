@@ -40,8 +40,8 @@ entered sail seq = hex "0b000200047361696c070001" ++ hex sail ++ hex "0003736571
 abbrev four : List ℕ
 four = entered "41" "0000000000000001" ++ entered "42" "0000000000000005" ++ entered "41" "0000000000000002" ++ entered "42" "0000000000000005"
 
--- A's second frame, and B's first of two equal ones
-pub corrected : namesFor four (27 ∷ 54 ∷ 81 ∷ 108 ∷ []) 2 ≡ ok (2 ∷ 1 ∷ [])
+-- A's second frame, and B's second of two equal ones
+pub corrected : namesFor four (27 ∷ 54 ∷ 81 ∷ 108 ∷ []) 2 ≡ ok (2 ∷ 3 ∷ [])
 unfolding computed
 corrected = refl
 

@@ -103,7 +103,7 @@ fn place_of(
 fn takes_over(later: u64, earlier: u64) -> bool
     ensures { λ r. ⌜ r ≡ beats later earlier ⌝ }
 {
-    earlier < later
+    earlier <= later
 }
 
 // Enters frame i behind the `count` frames that are listed: it takes over from the one of its sail, stays behind it, or is a new one.

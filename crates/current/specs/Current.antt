@@ -2,7 +2,7 @@
 use Prim.Native.Nat.{ℕ}
 use mathlib.Core.List.{List, [], _∷_}
 use mathlib.Core.Bool.{Bool}
-use lib.Dec.{ltb}
+use lib.Dec.{leb}
 use Rattle.base.specs.Base.{if_then_else_}
 use Rattle.text.specs.Text.{Text, same}
 
@@ -13,9 +13,9 @@ pub record Finish : Type 0 where
   pub seq : ℕ
 
 -- whether a finish takes over from the current one of its sail, whose frame stands before its own, by their seqs: with equal seqs
--- the earlier frame stays current
+-- the later frame takes over
 unfoldable pub beats : ℕ → ℕ → Bool
-beats later earlier = ltb earlier later
+beats later earlier = leb earlier later
 
 -- ---- by any such rule
 
