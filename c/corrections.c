@@ -222,7 +222,7 @@ int main(void)
 
     enter(&race, correction("A 12", 2, 3591));
     enter(&race, correction("A 12", 1, 3589)); /* came in late: seq 2 stays current */
-    enter(&race, correction("C 5", 0, 3640));  /* an equal seq: the first one stays current */
+    enter(&race, correction("C 5", 0, 3640));  /* an equal seq: the later one is current */
     enter(&race, correction("B 7", 1, 0));     /* did not finish after all */
     print_sheet(&race, "corrected");
 

@@ -188,7 +188,7 @@ int32_t hulmbax_resolve(const uint8_t *schema, size_t schema_len,
  *
  * The list is of frames that are records, with a String in the field sail and a Long in the field seq, as
  * hulmbax_resolve gives them under a schema that has both. Of the frames of a sail the one with the
- * greatest seq is current, and of those with an equal seq the first. A seq below zero is less than 0. Two
+ * greatest seq is current, and of those with an equal seq the last. A seq below zero is less than 0. Two
  * sails are the same where their bytes are. Of a field whose name repeats in a record, the last counts.
  * One frame is named for each sail, so for a sheet of several races it is asked once for each race.
  *

@@ -9,7 +9,7 @@ use std::slice;
 /// A finish is a [`Value::Record`] with a [`Value::String`] in the field `sail` and a
 /// [`Value::Long`] in the field `seq`, as [`Reader::resolve`](crate::Reader::resolve) gives it under
 /// a schema that has both. Of the finishes of a sail the one with the greatest `seq` is current, and
-/// of those with an equal `seq` the first. Of a field whose name repeats, the last counts.
+/// of those with an equal `seq` the last. Of a field whose name repeats, the last counts.
 ///
 /// The answer has the place in the list, from 0, of one finish for each sail, in the order in which
 /// the sails first appear; an empty list gives an empty answer. So for a sheet of several races it is

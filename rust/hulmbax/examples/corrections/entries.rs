@@ -61,7 +61,7 @@ pub fn entries() -> Vec<Value> {
         entry("B 19", 1, 1043.5, seconds(3702.5)),
         // the sheet doesn't take a text, so nothing is entered
         entry("C 8", 1, 985.0, text("1:00:40")),
-        // the seq was not raised, so the first one stays
+        // the seq was not raised, and the later one counts
         entry("A 31", 0, 1000.0, seconds(3700.0)),
         // the second correction comes in before the first
         entry("C 5", 2, 985.0, seconds(3640.0)),

@@ -13,13 +13,13 @@ pub fn finish(sail: &str, seq: i64) -> Value {
 }
 
 /// The places of the current ones, if all are finishes. A finish is current if none before it of its
-/// sail has a seq as great and none after it a greater one.
+/// sail has a greater seq and none after it one as great.
 pub fn reading(list: &[Value]) -> Option<Vec<usize>> {
     let list: Vec<(&str, i64)> = list.iter().map(sail_and_seq).collect::<Option<_>>()?;
     let is_current = |place: &usize| {
         let (sail, seq) = list[*place];
         let mut others = (0..).zip(&list).filter(|(_, other)| other.0 == sail);
-        others.all(|(other, (_, its))| match other < *place {
+        others.all(|(other, (_, its))| match other > *place {
             true => *its < seq,
             false => *its <= seq,
         })
@@ -82,13 +82,13 @@ fn the_greatest_seq_is_current_wherever_it_stands() {
 }
 
 #[test]
-fn of_equal_seqs_the_earlier_is_current() {
+fn of_equal_seqs_the_later_is_current() {
     for seq in [0, 1, -1, i64::MIN, i64::MAX] {
         let list = [(); 5].map(|()| finish("A 12", seq));
-        assert_eq!(current(&list), Ok(vec![0]), "{seq}");
+        assert_eq!(current(&list), Ok(vec![4]), "{seq}");
     }
-    let list = [0, 2, 1, 2, 2].map(|seq| finish("A 12", seq));
-    assert_eq!(current(&list), Ok(vec![1]));
+    let list = [2, 0, 2, 2, 1].map(|seq| finish("A 12", seq));
+    assert_eq!(current(&list), Ok(vec![3]));
 }
 
 #[test]
@@ -101,8 +101,9 @@ fn sails_stand_in_the_order_in_which_they_first_appear() {
         finish("C 5", -1),
         finish("B 7", 3),
         finish("D 1", 0),
+        finish("C 5", 0),
     ];
-    assert_eq!(current(&list), Ok(vec![0, 3, 5, 6]));
+    assert_eq!(current(&list), Ok(vec![7, 3, 5, 6]));
 }
 
 #[test]
@@ -298,7 +299,7 @@ fn results_of_a_reader() {
         Value::record([("sail", Value::from("A 12")), ("seq", Value::Int(0))]),
     ];
     let resolved = |mut reader: Reader| sent.clone().map(|sent| reader.resolve(&sent).unwrap());
-    assert_eq!(current(&resolved(reader(Schema::String))), Ok(vec![0]));
+    assert_eq!(current(&resolved(reader(Schema::String))), Ok(vec![2]));
     let nullable = Schema::nullable(Schema::String).unwrap();
     assert_eq!(refused(&resolved(reader(nullable))), no_finish(0));
 }

@@ -59,7 +59,7 @@ fn places_of<const N: usize>(frames: [&str; N]) -> Result<Vec<u8>, Refusal> {
 fn the_fields_stand_in_any_order() {
     assert_eq!(places_of([LATER, EARLIER]), Ok(vec![0]));
     assert_eq!(places_of([EARLIER, LATER]), Ok(vec![1]));
-    assert_eq!(places_of([EARLIER, EARLIER]), Ok(vec![0]));
+    assert_eq!(places_of([EARLIER, EARLIER]), Ok(vec![1]));
 }
 
 #[test]
@@ -146,7 +146,7 @@ fn the_longest_frame_and_one_that_is_longer() {
     let longer = filled(MAX_FRAME + 1);
     assert_eq!(places(&longer, &[MAX_FRAME + 1]), Err(Refusal::NoFinish));
     let (input, ends) = list([longest.clone(), bytes(EARLIER), longest]);
-    assert_eq!(places(&input, &ends), Ok(vec![0]));
+    assert_eq!(places(&input, &ends), Ok(vec![2]));
 }
 
 #[test]
@@ -222,7 +222,7 @@ fn the_answer_is_as_long_as_there_are_boats_not_frames() {
     let (input, ends) = list([EARLIER, LATER, LATER].map(bytes));
     let mut result = [0xaa];
     let answer = current(&input, &ends, &mut result, &mut vec![0; WORKSPACE_LEN]);
-    assert_eq!((answer, result), (Ok(1), [1]));
+    assert_eq!((answer, result), (Ok(1), [2]));
 }
 
 #[test]
