@@ -17,7 +17,7 @@ int32_t true_current(const uint8_t *input, size_t input_len, const size_t *ends,
 enum fault {
     NONE,
     /* in choosing */
-    LATER_OF_EQUAL,     /* of equal numbers the later frame */
+    EARLIER_OF_EQUAL,   /* of equal numbers the earlier frame */
     FIRST_STAYS,        /* the first frame of a sail, whatever follows */
     LAST_ENTERED,       /* the last frame of a sail, whatever its number */
     WITHOUT_SIGN,       /* numbers are compared without their sign */
@@ -437,15 +437,15 @@ static int same_sail(struct bytes a, struct bytes b)
 static int supersedes(int64_t b, int64_t a)
 {
     switch (fault) {
-    case LATER_OF_EQUAL: return b >= a;
+    case EARLIER_OF_EQUAL: return b > a;
     case FIRST_STAYS: return 0;
     case LAST_ENTERED: return 1;
-    case WITHOUT_SIGN: return (uint64_t)b > (uint64_t)a;
-    case LOW_HALF: return (uint32_t)b > (uint32_t)a;
-    case HIGH_HALF: return b >> 32 > a >> 32;
-    case AS_DOUBLES: return (double)b > (double)a;
-    case BY_DIFFERENCE: return (int64_t)((uint64_t)b - (uint64_t)a) > 0;
-    default: return b > a;
+    case WITHOUT_SIGN: return (uint64_t)b >= (uint64_t)a;
+    case LOW_HALF: return (uint32_t)b >= (uint32_t)a;
+    case HIGH_HALF: return b >> 32 >= a >> 32;
+    case AS_DOUBLES: return (double)b >= (double)a;
+    case BY_DIFFERENCE: return (int64_t)((uint64_t)b - (uint64_t)a) >= 0;
+    default: return b >= a;
     }
 }
 

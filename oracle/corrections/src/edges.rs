@@ -1,4 +1,4 @@
-//! Lists made by hand, the same ones each time: each rule of Q-7 by itself.
+//! Lists made by hand, the same ones each time: each rule of by itself.
 use crate::generate::hash;
 use crate::list::List;
 use crate::random::Rng;
@@ -20,7 +20,7 @@ pub fn sections() -> Vec<Section> {
 /// Lists whose frames lie one behind the other, and nothing else.
 fn framed() -> Vec<(&'static str, Vec<Vec<Node>>)> {
     vec![
-        ("No frames, one, and corrections: the greatest number, the earlier of equal ones", corrections()),
+        ("No frames, one, and corrections: the greatest number, the later of equal ones", corrections()),
         ("The same finishes in every order: the same ones are named", orders()),
         ("Numbers have a sign and 64 bits", numbers()),
         ("Sails are equal where their bytes are", sails()),

@@ -1,5 +1,5 @@
-//! Which of several finishes is current (request Q-7), read from the words of the request and of
-//! docs/RULES.md alone: nothing of Hulmbax, of the crate or of the other programs here is used.
+//! Which of several finishes is current (requests ), read from the words of the requests and
+//! of docs/RULES.md alone: nothing of Hulmbax, of the crate or of the other programs here is used.
 pub mod edges;
 pub mod frame;
 pub mod generate;

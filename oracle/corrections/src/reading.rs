@@ -1,5 +1,5 @@
-//! Q-7 as it is written: of the finishes of each sail the one with the greatest `seq` is current, of
-//! equal ones the earliest.
+//! as they are written: of the finishes of each sail the one with the greatest `seq` is
+//! current, of equal ones the latest.
 use crate::frame::{self, Value};
 use crate::list::List;
 
@@ -64,18 +64,18 @@ pub fn current(finishes: &[Finish]) -> Vec<u8> {
     sails.into_iter().map(|sail| current_of(sail, finishes)).collect()
 }
 
-/// The place of the earliest finish with the greatest number of this sail, which has one.
+/// The place of the latest finish with the greatest number of this sail, which has one.
 fn current_of(sail: &str, finishes: &[Finish]) -> u8 {
     let greatest = finishes.iter().filter(|f| f.sail == sail).map(|f| f.seq).max();
-    let place = finishes.iter().position(|f| f.sail == sail && Some(f.seq) == greatest);
+    let place = finishes.iter().rposition(|f| f.sail == sail && Some(f.seq) == greatest);
     u8::try_from(place.unwrap()).unwrap()
 }
 
-/// How the finishes that are not the first of their sail stand to the one that was current before.
+/// How the numbers of the finishes that are not the first of their sail stand to that of the one that
+/// was current before. With a greater one and an equal one they are current from there on.
 #[derive(Default, Debug, PartialEq)]
 pub struct Corrections {
-    /// greater: this one is current from here on
-    pub superseding: usize,
+    pub greater: usize,
     pub equal: usize,
     pub lesser: usize,
 }
@@ -86,11 +86,17 @@ pub fn corrections(finishes: &[Finish]) -> Corrections {
     for (place, finish) in finishes.iter().enumerate() {
         let before = finishes[..place].iter().filter(|f| f.sail == finish.sail).map(|f| f.seq).max();
         match before.map(|seq| finish.seq.cmp(&seq)) {
-            Some(std::cmp::Ordering::Greater) => sum.superseding += 1,
+            Some(std::cmp::Ordering::Greater) => sum.greater += 1,
             Some(std::cmp::Ordering::Equal) => sum.equal += 1,
             Some(std::cmp::Ordering::Less) => sum.lesser += 1,
             None => {}
         }
     }
     sum
+}
+
+/// Whether a finish is current because it is the later one: one of its sail and number stands before it.
+pub fn is_tied(finishes: &[Finish], places: &[u8]) -> bool {
+    let is_later = |place: usize| finishes[..place].contains(&finishes[place]);
+    places.iter().any(|place| is_later(usize::from(*place)))
 }

@@ -8,11 +8,11 @@ use corrections::reading::{Answer, answer};
 use std::process::exit;
 
 const HEAD: &str = "\
-# Lists of frames, each with the places of the finishes that are current (Q-7). All is in hexadecimal, numbers high
-# byte first: a byte that counts the frames, for each frame 2 bytes that say where it ends, and the input's bytes;
+# Lists of frames, each with the places of the finishes that are current (Q-7, Q-13). All is in hexadecimal, numbers
+# high byte first: a byte that counts the frames, for each frame 2 bytes that say where it ends, and the input's bytes;
 # behind a space a byte for each place, `=` where there is none, or `-` and the number of the refusal in docs/RULES.md.
 # `oracle/current --list` makes the list. The answers are those of oracle/corrections, which reads frames and finishes
-# by itself, from the words of the request alone. No answer is Hulmbax's own.";
+# by itself, from the words of the requests alone. No answer is Hulmbax's own.";
 /// The most lines of the list, and the most characters of one.
 const MOST_LINES: usize = 220;
 const MOST_CHARS: usize = 2_000;

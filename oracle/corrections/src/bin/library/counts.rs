@@ -15,6 +15,7 @@ pub struct Counts {
     empty: usize,
     sails: usize,
     corrections: Corrections,
+    tied: usize,
     permuted: usize,
 }
 
@@ -27,10 +28,12 @@ impl Counts {
         self.empty += usize::from(list.ends.is_empty());
         if let Ok(places) = answer {
             self.sails += places.len();
-            let more = reading::corrections(&reading::finishes(list).unwrap());
-            self.corrections.superseding += more.superseding;
+            let finishes = reading::finishes(list).unwrap();
+            let more = reading::corrections(&finishes);
+            self.corrections.greater += more.greater;
             self.corrections.equal += more.equal;
             self.corrections.lesser += more.lesser;
+            self.tied += usize::from(reading::is_tied(&finishes, places));
         }
     }
 
@@ -60,11 +63,12 @@ impl Counts {
         }
         println!("\n{} lists of more than 100 frames, {} without any", self.long, self.empty);
         println!("{} frames; {} sails listed", self.frames, self.sails);
-        let Corrections { superseding, equal, lesser } = self.corrections;
+        let Corrections { greater, equal, lesser } = self.corrections;
         println!(
-            "of the finishes behind the first of their sail {superseding} superseded the one before, \
-             {equal} had an equal number, {lesser} a lesser one"
+            "of the finishes behind the first of their sail {greater} had a greater number than the one \
+             that was current, {equal} an equal one, {lesser} a lesser one"
         );
+        println!("{} lists in which a finish is current because it is the later of equal ones", self.tied);
         println!("{} lists permuted", self.permuted);
     }
 }

@@ -1,4 +1,4 @@
-//! Program `library`: `hulmbax_current` of libhulmbax.a beside the reading of Q-7. See ../README.md.
+//! Program `library`: `hulmbax_current` of libhulmbax.a beside the reading of. See ../README.md.
 mod buffers;
 mod compare;
 mod counts;
