@@ -4,16 +4,21 @@ use Prim.Native.String.{String}
 use mathlib.Core.Path.{_≡_, refl, sym, ap, _∙_}
 use native.Mathlib.Omega.{arith}
 use lib.ListN.{getD}
+use mathlib.Core.Logic.{inl, inr}
 use mathlib.Core.List.{List, [], _∷_, _++_}
+use mathlib.Core.Bool.{true, false}
 use mathlib.Core.Option.{Option, none, some, Option·getD, orElse}
 use Rattle.base.specs.Base
 use Rattle.base.specs.Base.{ok, stop}
 use Rattle.number.specs.Number
 use Rattle.utf8.specs.Utf8
+use Rattle.rounding.specs.Rounding.{ofTwos}
 use Rattle.text.specs.Text
 use Rattle.text.specs.Read
 use Rattle.uuid.specs.Uuid
+use Rattle.frame.specs.Kind
 use Rattle.frame.specs.Tree
+use Rattle.frame.specs.Tree.{Value, entry, noEntries}
 use Rattle.frame.specs.Readers
 use Rattle.frame.specs.ValueFrame
 use Rattle.frame.specs.Sound
@@ -21,10 +26,15 @@ use Rattle.avro.specs.Resolve
 use Rattle.buffer.specs.After
 use Rattle.lists.specs.Frames
 use Rattle.finishes.specs.Finish
+use Rattle.finishes.specs.Words.{IsFinish}
+use Rattle.finishes.proofs.RankOrder.{lessℤ}
 use Rattle.current.specs.Current
+use Rattle.current.specs.Claims.{In}
 use Rattle.corrections.specs.Named
 use Rattle.corrections.specs.Named.{namesFor}
 use Rattle.corrections.specs.Claims.{SaysAt, Reordered}
+use Rattle.corrections.proofs.Words.{place-current}
+use Rattle.corrections.proofs.Greatest.{no-greater-before, smaller-behind}
 
 unfoldable computed : ℕ
 unfolding Base.after Number.allBytes Number.bigEndian Utf8.leadOf Utf8.stepOf Utf8.run Utf8.isUtf8 Text.ascii Text.same Text.less Read._>>=_ Read.readBytes Read.readNumber Read.readCounted Read.readText Uuid.hexDigit Uuid.hexPair Uuid.hexBytes Tree.kindOf Tree.number Tree.octets Tree.entries Readers.readFlag Readers.readMany Readers.readList Readers.whole ValueFrame.contents ValueFrame.itemsOf ValueFrame.entriesOf ValueFrame.readEntry ValueFrame.readContent ValueFrame.readValue ValueFrame.decodeValue Sound.pastKey Sound.keysRise Sound.checkedValue orElse Resolve.lastUnder After.checkedResult Frames.frameAt Frames.framesFrom Finish.rank Finish.stringOf Finish.longOf Finish.fields Finish.said Finish.saidIn Finish.finishOf Current.beats Current.overBy Current.currentBy Current.without Current.listedBy Named.placed Named.finishes Named.places Named.namesOf Named.namesFor
@@ -45,10 +55,49 @@ pub corrected : namesFor four (27 ∷ 54 ∷ 81 ∷ 108 ∷ []) 2 ≡ ok (2 ∷ 
 unfolding computed
 corrected = refl
 
+abbrev both : List ℕ
+both = entered "41" "0000000000000001" ++ entered "41" "ffffffffffffffff"
+
 -- a negative seq is smaller
-pub negative : namesFor (entered "41" "0000000000000001" ++ entered "41" "ffffffffffffffff") (27 ∷ 54 ∷ []) 1 ≡ ok (0 ∷ [])
+pub negative : namesFor both (27 ∷ 54 ∷ []) 1 ≡ ok (0 ∷ [])
 unfolding computed
 negative = refl
+
+-- ---- the theorems on whole numbers, of these lists
+
+abbrev tree : ℕ → ℕ → Value
+tree sail seq = Value.Record (entry (Text.ascii "sail") (Value.Octets Kind.String (sail ∷ [])) (entry (Text.ascii "seq") (Value.Scalar Kind.Long seq) noEntries))
+
+-- what a frame of such a record says
+unfoldable finish : (v : List ℕ) (sail seq : ℕ) → Sound.checkedValue (ValueFrame.decodeValue v) ≡ ok (tree sail seq) → IsFinish v (sail ∷ []) (Finish.rank seq)
+unfolding computed
+finish v sail seq e = record {
+  tree = tree sail seq;
+  whole = record { passes = e; kind = refl };
+  sail = Value.Octets Kind.String (sail ∷ []);
+  sail-there = refl;
+  sail-kind = refl;
+  sail-is = refl;
+  seq = Value.Scalar Kind.Long seq;
+  seq-there = refl;
+  seq-kind = refl;
+  seq-is = refl;
+}
+
+-- B's first frame has no greater seq than its second, which is current
+pub no-greater : lessℤ (ofTwos 64 5) (ofTwos 64 5) ≡ false
+unfolding computed finish In
+no-greater =
+    no-greater-before four (27 ∷ 54 ∷ 81 ∷ 108 ∷ []) tt 3 1 (0x42 ∷ []) (Finish.rank 5) (Finish.rank 5)
+    (place-current four (27 ∷ 54 ∷ 81 ∷ 108 ∷ []) 2 (2 ∷ 3 ∷ []) corrected 3 (inr (inl refl)))
+    (finish (entered "42" "0000000000000005") 0x42 5 refl) (finish (entered "42" "0000000000000005") 0x42 5 refl) (omega arith) (omega arith)
+
+-- A's second frame has a smaller one than its first
+pub smaller : lessℤ (ofTwos 64 0xffffffffffffffff) (ofTwos 64 1) ≡ true
+unfolding computed finish In
+smaller =
+    smaller-behind both (27 ∷ 54 ∷ []) tt 0 1 (0x41 ∷ []) (Finish.rank 1) (Finish.rank 0xffffffffffffffff) (place-current both (27 ∷ 54 ∷ []) 1 (0 ∷ []) negative 0 (inl refl))
+    (finish (entered "41" "0000000000000001") 0x41 1 refl) (finish (entered "41" "ffffffffffffffff") 0x41 0xffffffffffffffff refl) (omega arith) (omega arith)
 
 pub no-frames : namesFor [] [] 0 ≡ ok []
 unfolding computed
