@@ -16,7 +16,7 @@ use Rattle.types.specs.Types.{Outcome}
 use Rattle.avro.specs.Union.{noTrial, find-schema-with-known-schemata, inUnion, resolve-union}
 use Rattle.avro.specs.Resolve.{eachItem, eachEntry, resolve-array, resolve-map, lastUnder, first, fieldValue, resolve-record, resolve, resolveFields, startDefault, trials}
 use Rattle.avro.proofs.Ends.{Ends, ends-if, ends-after, ends-map}
-use Rattle.avro.proofs.SchemaCases.{childless, single, leaf-single, EveryField, EveryVariant, every}
+use Rattle.avro.proofs.SchemaCases.{childless, EveryField, EveryVariant, every}
 
 -- ---- what holds of each part of a value, and of what comes of each
 
@@ -69,23 +69,28 @@ module _ (P Q : Value → Type 0) (f : Value → Outcome) (c : (v : Value) → P
 
 -- ---- any schema
 
--- `In` is asked of a value, `Start` of a default, and `Out` holds of what comes out
-module _ (In Start Out : Schema → Value → Type 0) where
+-- `In` is asked of a value, a default among them, and `Out` holds of what comes out
+module _ (In Out : Schema → Value → Type 0) where
   abbrev pub Comes : Schema → Type 0
   Comes s = (v : Value) → In s v → Ends (Out s) (resolve s v)
 
   -- a default as it starts out
   abbrev pub Starts : Schema → Type 0
-  Starts s = (d : Value) → Start s d → Ends (λ w. Ends (Out s) (resolve s w)) (startDefault s d)
+  Starts s = (d : Value) → In s d → Ends (λ w. Ends (Out s) (resolve s w)) (startDefault s d)
 
   -- the last value under a field's name, or where there is none its default
   pub record InField (n : Text) (d : Option Value) (s : Schema) (es : Entries) : Type 0 where
     pub value : (v : Value) → lastUnder n es ≡ some v → In s v
-    pub default : (x : Value) → lastUnder n es ≡ none → d ≡ some x → Start s x
+    pub default : (x : Value) → lastUnder n es ≡ none → d ≡ some x → In s x
 
   abbrev pub InFields : Fields → Entries → Type 0
   InFields noFields es = Unit
   InFields (field n d s fs) es = InField n d s es × InFields fs es
+
+  -- what the first variant makes of a default may go to the union
+  abbrev pub First : Schema → Variants → Value → Type 0
+  First u noVariants d = Unit
+  First u (variant s vs) d = In s d × ((r : Value) → Out s r → In u (Value.Union 0 r))
 
   pub record Closed : Type 0 where
     pub leaf : (s : Schema) → T (childless s) → Comes s
@@ -98,8 +103,8 @@ module _ (In Start Out : Schema → Value → Type 0) where
     pub union-in : (vs : Variants) (ks : List (ℕ × ℕ)) (ns : List ℕ) (v : Value) → In (Schema.Union vs ks ns) v → EveryVariant (λ s. In s (peel v)) vs
     pub union-out : (vs : Variants) (ks : List (ℕ × ℕ)) (ns : List ℕ) (v : Value) → In (Schema.Union vs ks ns) v → (i : ℕ) (r : Value) → AtVariant Out vs i r
         → Out (Schema.Union vs ks ns) (Value.Union i r)
-    pub single-start : (s : Schema) → T (single s) → (d : Value) → Start s d → In s d
-    pub union-start : (vs : Variants) (ks : List (ℕ × ℕ)) (ns : List ℕ) → EveryVariant Comes vs → Comes (Schema.Union vs ks ns) → Starts (Schema.Union vs ks ns)
+    pub null-in : (vs : Variants) (ks : List (ℕ × ℕ)) (ns : List ℕ) (d : Value) → In (Schema.Union vs ks ns) d → In (Schema.Union vs ks ns) (Value.Union 0 (Value.Scalar Kind.Null 0))
+    pub first-in : (vs : Variants) (ks : List (ℕ × ℕ)) (ns : List ℕ) (d : Value) → In (Schema.Union vs ks ns) d → First (Schema.Union vs ks ns) vs d
 
   -- a position past the variants gives 16
   ends-trial : (vs : Variants) (w : Value) → EveryVariant (λ s. Ends (Out s) (resolve s w)) vs → (i : ℕ) → Ends (AtVariant Out vs i) (getD (trials vs w) i noTrial .outcome)
@@ -109,22 +114,17 @@ module _ (In Start Out : Schema → Value → Type 0) where
   ends-trial (variant s vs) w c (suc i) = ends-trial vs w (c .1) i
 
   -- whichever variant is found
-  pub ends-union : (vs : Variants) (u : Schema) → ((i : ℕ) (r : Value) → AtVariant Out vs i r → Out u (Value.Union i r)) → (w : Value)
+  ends-union : (vs : Variants) (u : Schema) → ((i : ℕ) (r : Value) → AtVariant Out vs i r → Out u (Value.Union i r)) → (w : Value)
       → EveryVariant (λ s. Ends (Out s) (resolve s w)) vs → (o : Option ℕ) → Ends (Out u) (inUnion (trials vs w) o)
   unfolding inUnion
   ends-union vs u made w c none = tt
   ends-union vs u made w c (some i) = ends-after (AtVariant Out vs i) _ (getD (trials vs w) i noTrial .outcome) _ (ends-trial vs w c i) λ r q. made i r q
 
-  pub each-trial : (vs : Variants) (w : Value) → EveryVariant Comes vs → EveryVariant (λ s. In s w) vs → EveryVariant (λ s. Ends (Out s) (resolve s w)) vs
+  each-trial : (vs : Variants) (w : Value) → EveryVariant Comes vs → EveryVariant (λ s. In s w) vs → EveryVariant (λ s. Ends (Out s) (resolve s w)) vs
   each-trial noVariants w c i = tt
   each-trial (variant s vs) w c i = (c .0 w (i .0), each-trial vs w (c .1) (i .1))
 
-  -- what the first variant makes of a default may go to the union
-  abbrev pub First : Schema → Variants → Value → Type 0
-  First u noVariants d = Unit
-  First u (variant s vs) d = In s d × ((r : Value) → Out s r → In u (Value.Union 0 r))
-
-  pub start-first : (vs : Variants) (ks : List (ℕ × ℕ)) (ns : List ℕ) → EveryVariant Comes vs → Comes (Schema.Union vs ks ns) → (d : Value)
+  start-first : (vs : Variants) (ks : List (ℕ × ℕ)) (ns : List ℕ) → EveryVariant Comes vs → Comes (Schema.Union vs ks ns) → (d : Value)
       → In (Schema.Union vs ks ns) (Value.Union 0 (Value.Scalar Kind.Null 0)) → First (Schema.Union vs ks ns) vs d
       → Ends (λ w. Ends (Out (Schema.Union vs ks ns)) (resolve (Schema.Union vs ks ns) w)) (startDefault (Schema.Union vs ks ns) d)
   unfolding resolve first after
@@ -138,12 +138,12 @@ module _ (In Start Out : Schema → Value → Type 0) where
   module _ (c : Closed) where
     start-leaf : (s : Schema) → T (childless s) → Comes s → Starts s
     unfolding childless resolve
-    start-leaf (Schema.Plain k) l f d p = f d (c .single-start (Schema.Plain k) (leaf-single (Schema.Plain k) tt) d p)
-    start-leaf (Schema.Fixed n) l f d p = f d (c .single-start (Schema.Fixed n) (leaf-single (Schema.Fixed n) tt) d p)
-    start-leaf (Schema.Decimal q s n) l f d p = f d (c .single-start (Schema.Decimal q s n) (leaf-single (Schema.Decimal q s n) tt) d p)
-    start-leaf (Schema.Uuid u) l f d p = f d (c .single-start (Schema.Uuid u) (leaf-single (Schema.Uuid u) tt) d p)
-    start-leaf (Schema.Duration n) l f d p = f d (c .single-start (Schema.Duration n) (leaf-single (Schema.Duration n) tt) d p)
-    start-leaf (Schema.Enum ss t) l f d p = f d (c .single-start (Schema.Enum ss t) (leaf-single (Schema.Enum ss t) tt) d p)
+    start-leaf (Schema.Plain k) l f d p = f d p
+    start-leaf (Schema.Fixed n) l f d p = f d p
+    start-leaf (Schema.Decimal q s n) l f d p = f d p
+    start-leaf (Schema.Uuid u) l f d p = f d p
+    start-leaf (Schema.Duration n) l f d p = f d p
+    start-leaf (Schema.Enum ss t) l f d p = f d p
     start-leaf (Schema.Array s) l f d p = absurd l
     start-leaf (Schema.Map s) l f d p = absurd l
     start-leaf (Schema.Record fs) l f d p = absurd l
@@ -165,7 +165,7 @@ module _ (In Start Out : Schema → Value → Type 0) where
         (ends-entries (In s) (Out s) (λ w. resolve s w) f (entries (peel v)) (c .map-in s v p t)) λ rs q. c .map-out s v p t rs q)
         (λ _. tt)
 
-    value-ends : (s : Schema) → Comes s → Starts s → (l d : Option Value) → ((v : Value) → l ≡ some v → In s v) → ((x : Value) → l ≡ none → d ≡ some x → Start s x)
+    value-ends : (s : Schema) → Comes s → Starts s → (l d : Option Value) → ((v : Value) → l ≡ some v → In s v) → ((x : Value) → l ≡ none → d ≡ some x → In s x)
         → Ends (λ w. Ends (Out s) (resolve s w)) (fieldValue l d (λ w. startDefault s w))
     unfolding fieldValue
     value-ends s f g (some v) d p q = f v (p v refl)
@@ -199,22 +199,21 @@ module _ (In Start Out : Schema → Value → Type 0) where
         (find-schema-with-known-schemata (trials vs (peel v)) ks ns (kindOf (peel v)))
 
     both : (s : Schema) → Comes s × Starts s
-    unfolding resolve single
+    unfolding resolve
     both = every (λ s. Comes s × Starts s) (record {
       leaf = λ s l. (c .leaf s l, start-leaf s l (c .leaf s l));
-      array = λ s g. (array-comes s (g .0), λ d p. array-comes s (g .0) d (c .single-start (Schema.Array s) tt d p));
-      map = λ s g. (map-comes s (g .0), λ d p. map-comes s (g .0) d (c .single-start (Schema.Map s) tt d p));
-      fields = λ fs g. (record-comes fs g, λ d p. record-comes fs g d (c .single-start (Schema.Record fs) tt d p));
-      union = λ vs ks ns g. (union-comes vs ks ns (first-of vs g), c .union-start vs ks ns (first-of vs g) (union-comes vs ks ns (first-of vs g)));
+      array = λ s g. (array-comes s (g .0), array-comes s (g .0));
+      map = λ s g. (map-comes s (g .0), map-comes s (g .0));
+      fields = λ fs g. (record-comes fs g, record-comes fs g);
+      union = λ vs ks ns g. (
+        union-comes vs ks ns (first-of vs g),
+        λ d p. start-first vs ks ns (first-of vs g) (union-comes vs ks ns (first-of vs g)) d (c .null-in vs ks ns d p) (c .first-in vs ks ns d p),
+      );
     })
 
     -- what comes of a value
     pub comes : (s : Schema) → Comes s
     comes s = both s .0
-
-    -- what comes of a default
-    pub starts : (s : Schema) → Starts s
-    starts s = both s .1
 
 -- ---- what holds of every result, whatever goes in
 
@@ -234,11 +233,11 @@ abbrev Any : Schema → Value → Type 0
 Any s v = Unit
 
 module _ (Out : Schema → Value → Type 0) where
-  any-fields : (fs : Fields) (es : Entries) → InFields Any Any Out fs es
+  any-fields : (fs : Fields) (es : Entries) → InFields Any Out fs es
   any-fields noFields es = tt
   any-fields (field n d s fs) es = (record { value = λ v e. tt; default = λ x e q. tt }, any-fields fs es)
 
-  any-first : (u : Schema) (vs : Variants) (d : Value) → First Any Any Out u vs d
+  any-first : (u : Schema) (vs : Variants) (d : Value) → First Any Out u vs d
   any-first u noVariants d = tt
   any-first u (variant s vs) d = (tt, λ r o. tt)
 
@@ -250,7 +249,7 @@ module _ (Out : Schema → Value → Type 0) where
     pub union : (vs : Variants) (ks : List (ℕ × ℕ)) (ns : List ℕ) (i : ℕ) (r : Value) → AtVariant Out vs i r → Out (Schema.Union vs ks ns) (Value.Union i r)
 
   pub always : Always → (s : Schema) (v : Value) → Ends (Out s) (resolve s v)
-  always a s v = comes Any Any Out (record {
+  always a s v = comes Any Out (record {
     leaf = λ s l v _. a .leaf s l v;
     array-in = λ s v _. any-items (items (peel v));
     array-out = λ s v _ rs m. a .array s (items (peel v)) rs m;
@@ -260,6 +259,6 @@ module _ (Out : Schema → Value → Type 0) where
     record-out = λ fs v _ rs m. a .fields fs rs m;
     union-in = λ vs ks ns v _. any-variants vs;
     union-out = λ vs ks ns v _ i r m. a .union vs ks ns i r m;
-    single-start = λ s u d _. tt;
-    union-start = λ vs ks ns c f d _. start-first Any Any Out vs ks ns c f d tt (any-first (Schema.Union vs ks ns) vs d);
+    null-in = λ vs ks ns d _. tt;
+    first-in = λ vs ks ns d _. any-first (Schema.Union vs ks ns) vs d;
   }) s v tt

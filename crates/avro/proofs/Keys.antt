@@ -3,7 +3,7 @@ use Prim.Native.Nat.{ℕ, zero, suc}
 use mathlib.Core.Path.{_≡_, refl, subst}
 use mathlib.Core.List.{List}
 use mathlib.Core.Option.{Option, none, some, orElse}
-use mathlib.Core.Bool.{Bool, true, false, _&&_}
+use mathlib.Core.Bool.{Bool, true, false}
 use lib.Dec.{T}
 use lib.Ieee.Fits.{and-l, and-r, and-i}
 use Rattle.base.specs.Base.{if_then_else_}
@@ -17,7 +17,7 @@ use Rattle.frame.proofs.Inside.{peel-keys, items-keys, entries-keys, map-rising
 use Rattle.avro.specs.Resolve.{lastUnder, resolve}
 use Rattle.avro.proofs.Ends.{ends-map, ends-okay}
 use Rattle.avro.proofs.SchemaCases.{EveryVariant}
-use Rattle.avro.proofs.Closure.{AllItems, AllEntries, ItemsMade, EntriesMade, FieldsMade, AtVariant, InFields, First, Comes, Starts, comes, start-first}
+use Rattle.avro.proofs.Closure.{AllItems, AllEntries, ItemsMade, EntriesMade, FieldsMade, AtVariant, InFields, First, comes}
 use Rattle.avro.proofs.Made.{Made, made}
 
 record In (s : Schema) (v : Value) : Type 0 where
@@ -102,7 +102,7 @@ pub default-keys : (d : Option Value) (x : Value) → d ≡ some x → T (defaul
 unfolding defaultAllowed
 default-keys d x q a = and-r (defaultKinds x) (keysRise x) (subst (λ (o : Option Value). T (defaultAllowed o)) q a)
 
-fields-in : (fs : Fields) → T (fieldsSound fs) → (es : Entries) → T (entryKeysRise es) → InFields In In Out fs es
+fields-in : (fs : Fields) → T (fieldsSound fs) → (es : Entries) → T (entryKeysRise es) → InFields In Out fs es
 fields-in noFields z es k = tt
 fields-in (field n d s fs) z es k =
     let f = sound-field n d s fs z in (
@@ -113,7 +113,7 @@ fields-in (field n d s fs) z es k =
       fields-in fs (f .rest) es k,
     )
 
-record-in : (fs : Fields) (v : Value) → In (Schema.Record fs) v → InFields In In Out fs (entries (peel v))
+record-in : (fs : Fields) (v : Value) → In (Schema.Record fs) v → InFields In Out fs (entries (peel v))
 unfolding schemaSound
 record-in fs v p = fields-in fs (p .sound) (entries (peel v)) (entries-keys (peel v) (peel-keys v (p .keys)))
 
@@ -147,19 +147,22 @@ module _ (vs : Variants) (ks : List (ℕ × ℕ)) (ns : List ℕ) where
   unfolding keysRise
   union-out i r m = variant-out vs i r m
 
-  first-in : (u : Schema) → T (schemaSound u) → (us : Variants) (d : Value) → EveryVariant (λ s. In s d) us → First In In Out u us d
+  first-of : (u : Schema) → T (schemaSound u) → (us : Variants) (d : Value) → EveryVariant (λ s. In s d) us → First In Out u us d
   unfolding keysRise
-  first-in u z noVariants d p = tt
-  first-in u z (variant s us) d p = (p .0, λ r o. record { sound = z; keys = o })
+  first-of u z noVariants d p = tt
+  first-of u z (variant s us) d p = (p .0, λ r o. record { sound = z; keys = o })
 
-  union-start : EveryVariant (Comes In In Out) vs → Comes In In Out (Schema.Union vs ks ns) → Starts In In Out (Schema.Union vs ks ns)
+  null-in : (d : Value) → In (Schema.Union vs ks ns) d → In (Schema.Union vs ks ns) (Value.Union 0 (Value.Scalar Kind.Null 0))
   unfolding keysRise
-  union-start c f d p = start-first In In Out vs ks ns c f d (record { sound = p .sound; keys = tt }) (first-in (Schema.Union vs ks ns) (p .sound) vs d (union-in d p d (p .keys)))
+  null-in d p = record { sound = p .sound; keys = tt }
+
+  first-in : (d : Value) → In (Schema.Union vs ks ns) d → First In Out (Schema.Union vs ks ns) vs d
+  first-in d p = first-of (Schema.Union vs ks ns) (p .sound) vs d (union-in d p d (p .keys))
 
 -- ---- any sound schema
 
 pub keys-resolve : (s : Schema) → T (schemaSound s) → (v : Value) → T (keysRise v) → Okay (λ r. T (keysRise r)) (resolve s v)
-keys-resolve s z v k = ends-okay (Out s) (resolve s v) (comes In In Out (record {
+keys-resolve s z v k = ends-okay (Out s) (resolve s v) (comes In Out (record {
   leaf = λ s l v p. ends-map (Made s (peel v)) (Out s) (resolve s v) (λ r m. m .keys) (made s l v);
   array-in = array-in;
   array-out = λ s v p rs m. array-out s (items (peel v)) rs m;
@@ -169,6 +172,6 @@ keys-resolve s z v k = ends-okay (Out s) (resolve s v) (comes In In Out (record 
   record-out = λ fs v p rs m. record-out fs rs m;
   union-in = λ vs ks ns v p. union-in vs ks ns v p (peel v) (peel-keys v (p .keys));
   union-out = λ vs ks ns v p i r m. union-out vs ks ns i r m;
-  single-start = λ s u d p. p;
-  union-start = λ vs ks ns c f. union-start vs ks ns c f;
+  null-in = null-in;
+  first-in = first-in;
 }) s v (record { sound = z; keys = k }))

@@ -6,7 +6,7 @@ use mathlib.Core.List.{List, [], _∷_}
 use mathlib.Core.Option.{Option, none, some}
 use mathlib.Core.Bool.{Bool, true, false, _&&_, _||_, not}
 use native.Mathlib.Omega.{arith}
-use lib.Dec.{T, leb, ltb, eqb, ltb→lt, lt→ltb, leb→le, eqb→eq, eqb-refl, not-T, T-not}
+use lib.Dec.{T, leb, ltb, eqb, ltb→lt, lt→ltb, leb→le, eqb→eq, eqb-refl, not-T}
 use lib.ListN.{length, getD}
 use lib.Ieee.Bits.{is-true, is-false}
 use lib.Ieee.Fits.{and-l, and-r, and-i, eq→eqb}
@@ -23,14 +23,14 @@ use Rattle.uuid.proofs.Sizes.{length-uuidOfText}
 use Rattle.scalar.specs.Conversion.{longOfInt, inInt, intOfLong, floatOfInt, floatOfLong, floatOfDouble, doubleOfInt, doubleOfLong, doubleOfFloat, parse-special-float}
 use Rattle.scalar.proofs.Bounds.{floatOfInt-<, floatOfLong-<, floatOfDouble-<, doubleOfInt-<, doubleOfLong-<, doubleOfFloat-<, longOfInt-<, intOfLong-<, parse-special-float-<}
 use Rattle.frame.specs.Kind
-use Rattle.frame.specs.Tree.{Value, Values, Schema, UuidForm, noItems, item, kindOf, is, number, index, octets, items, peel, schemaKind}
+use Rattle.frame.specs.Tree.{Value, Values, Schema, UuidForm, noItems, item, kindOf, is, number, index, octets, items, peel}
 use Rattle.frame.specs.ValueFrame.{Content, wide, flag, counted, text, plain, array, map, union, symbol, unknown, contents, kindContent, countItems}
 use Rattle.frame.specs.SchemaFrame.{bare}
 use Rattle.frame.specs.Sound.{keysRise}
 use Rattle.frame.proofs.RoundTrip.{held, scalarHeld, octetsHeld, textHeld}
 use Rattle.frame.proofs.ReadHeld.{HeldSchema, HeldText}
 use Rattle.frame.proofs.Inside.{items-count}
-use Rattle.types.specs.Types.{Outcome, resolvePlain, resolve-null, resolve-boolean, resolve-int, resolve-long, resolve-float, resolve-double, resolve-bytes, resolve-string, resolveIntTime, resolveLongTime, special, inByte, intByte, try-u8, byteItems, resolve-fixed, pointBytes, textPoints, fixedTooShort, resolve-decimal, parsedUuid, uuidOfBytes, resolve-uuid, resolve-duration, next-place, position, enumAt, orDefault, resolve-enum}
+use Rattle.types.specs.Types.{Outcome, resolvePlain, resolve-null, resolve-boolean, resolve-int, resolve-long, resolve-float, resolve-double, resolve-bytes, resolve-string, resolveIntTime, resolveLongTime, special, inByte, intByte, try-u8, byteItems, fixedOfBytes, resolve-fixed, pointBytes, textPoints, fixedTooShort, decimalOfBytes, resolve-decimal, parsedUuid, uuidOfBytes, resolve-uuid, resolve-duration, next-place, position, enumAt, orDefault, resolve-enum}
 use Rattle.types.proofs.ScalarLaws.{int-time-kept, long-time-kept}
 use Rattle.avro.specs.Matches.{fits, symbolAt}
 use Rattle.avro.specs.Resolve.{resolve}
@@ -43,14 +43,10 @@ pub record Stable (s : Schema) (r : Value) : Type 0 where
   pub fitting : T (fits s r)
   pub again : resolve s r ≡ ok r
 
--- a String against a Fixed or a Decimal: neither size nor precision is looked at
-abbrev pub unmeasured : Schema → Value → Bool
-unmeasured s v = (eqb (schemaKind s) Kind.Fixed || eqb (schemaKind s) Kind.Decimal) && is Kind.String v
-
 -- what the leaf s makes of v, which is peeled
 pub record Made (s : Schema) (v r : Value) : Type 0 where
   -- fits and repeats
-  pub stable : T (not (unmeasured s v)) → Stable s r
+  pub stable : Stable s r
   -- stands in a frame, where schema and value do
   pub holds : (d : ℕ) → HeldSchema s (suc d) → (e : ℕ) → T (held v e) → T (held r (suc d))
   -- its map keys rise
@@ -145,7 +141,7 @@ or-cases false b X t f g = g t
 -- the value as it was
 as-it-was : (k : ℕ) → T (leafKind k) → (s : Schema) (v : Value) → T (is k v) → (T (is k v) → T (fits s v)) → (peel v ≡ v → resolve s v ≡ ok v) → Made s v v
 as-it-was k l s v t f q = record {
-  stable = λ _. record { fitting = f t; again = q (peel-kind v (rw (kind-is k v t) (not-union k l))) };
+  stable = record { fitting = f t; again = q (peel-kind v (rw (kind-is k v t) (not-union k l))) };
   holds = λ d g e h. leaf-held k l v e h t d;
   keys = leaf-keys k l v t;
 }
@@ -158,13 +154,13 @@ a-number : (k n : ℕ) (v : Value) → resolvePlain k (Value.Scalar k n) ≡ ok 
     → Made (Schema.Plain k) v (Value.Scalar k n)
 unfolding fits resolve kindOf peel held keysRise
 a-number k n v q b = record {
-  stable = λ _. record { fitting = eqb-refl k; again = q };
+  stable = record { fitting = eqb-refl k; again = q };
   holds = λ d g e h. b g e h;
   keys = tt;
 }
 
 -- octets of kind k
-some-octets : (k : ℕ) (b : List ℕ) (s : Schema) (v : Value) → (T (not (unmeasured s v)) → Stable s (Value.Octets k b)) → ((e : ℕ) → T (held v e) → T (octetsHeld (kindContent k) b))
+some-octets : (k : ℕ) (b : List ℕ) (s : Schema) (v : Value) → Stable s (Value.Octets k b) → ((e : ℕ) → T (held v e) → T (octetsHeld (kindContent k) b))
     → Made s v (Value.Octets k b)
 unfolding held keysRise
 some-octets k b s v q h = record { stable = q; holds = λ d g e p. h e p; keys = tt }
@@ -177,7 +173,7 @@ plain-as-it-was k l v t q = as-it-was k l (Schema.Plain k) v t (λ u. u) (λ p. 
 plain-octets : (k : ℕ) (b : List ℕ) (v : Value) → resolvePlain k (Value.Octets k b) ≡ ok (Value.Octets k b) → ((e : ℕ) → T (held v e) → T (octetsHeld (kindContent k) b))
     → Made (Schema.Plain k) v (Value.Octets k b)
 unfolding fits resolve kindOf peel
-plain-octets k b v q h = some-octets k b (Schema.Plain k) v (λ _. record { fitting = eqb-refl k; again = q }) h
+plain-octets k b v q h = some-octets k b (Schema.Plain k) v (record { fitting = eqb-refl k; again = q }) h
 
 abbrev PlainMade : ℕ → Value → Outcome → Type 0
 PlainMade k v o = Ends (Made (Schema.Plain k) v) o
@@ -416,15 +412,20 @@ made-plain k v =
 
 -- ---- Fixed, Decimal, Duration
 
+-- bytes as a Fixed, where they are few enough for a frame
+sized : (size : ℕ) (v : Value) (b : List ℕ) → ((e : ℕ) → T (held v e) → T (ltb (length b) 65536)) → Ends (Made (Schema.Fixed size) v) (fixedOfBytes size b)
+unfolding resolve-fixed fits resolve peel kindOf octets contents octetsHeld
+sized size v b h =
+    ends-if _ (eqb (length b) size) _ _
+    (λ u. some-octets Kind.Fixed b (Schema.Fixed size) v (record { fitting = u; again = rw (is-true (eqb (length b) size) u) }) h)
+    (λ _. tt)
+
 pub made-fixed : (size : ℕ) (v : Value) → Ends (Made (Schema.Fixed size) v) (resolve-fixed size v)
-unfolding resolve-fixed fits resolve peel kindOf octets contents octetsHeld schemaKind
+unfolding resolve-fixed
 made-fixed size v =
-    ends-if _ (is Kind.String v) _ _ (λ t. some-octets Kind.Fixed (octets v) (Schema.Fixed size) v (λ n. absurd (T-not (is Kind.String v) n t)) (λ e h. string-lt v e h t))
+    ends-if _ (is Kind.String v) _ _ (λ t. sized size v (octets v) (λ e h. string-lt v e h t))
     λ _. ends-if _ (is Kind.Fixed v || is Kind.Bytes v) _ _
-    (λ t. ends-if _ (eqb (length (octets v)) size) _ _
-    (λ u. some-octets Kind.Fixed (octets v) (Schema.Fixed size) v (λ _. record { fitting = u; again = rw (is-true (eqb (length (octets v)) size) u) })
-    (λ e h. or-cases (is Kind.Fixed v) (is Kind.Bytes v) _ t (fixed-lt v e h) (bytes-lt v e h)))
-    (λ _. tt))
+    (λ t. sized size v (octets v) (λ e h. or-cases (is Kind.Fixed v) (is Kind.Bytes v) _ t (fixed-lt v e h) (bytes-lt v e h)))
     (λ _. tt)
 
 -- as many bytes as code points
@@ -442,21 +443,27 @@ textPoints-length t = go (codePoints t) refl
     go none e = tt
     go (some ps) e = ends-map (λ s. length s ≡ length ps) _ (pointBytes ps) (λ s q. rw q (length-codePoints t ps e)) (pointBytes-length ps)
 
+-- bytes as a Decimal, where neither 12 nor 13 stops the schema and they are few enough for a frame
+precise : (p s : ℕ) (n : Option ℕ) → T (not (ltb p s)) → T (not (fixedTooShort p n)) → (v : Value) (b : List ℕ)
+    → ((e : ℕ) → T (held v e) → T (ltb (length b) 65536)) → Ends (Made (Schema.Decimal p s n) v) (decimalOfBytes p b)
+unfolding resolve-decimal fits resolve peel kindOf octets contents octetsHeld
+precise p s n x y v b h =
+    ends-if _ (tooShortFor p (length b)) _ _ (λ _. tt)
+    (λ z. some-octets Kind.Decimal b (Schema.Decimal p s n) v
+    (record { fitting = tt; again = rw (is-false (ltb p s) x, is-false (fixedTooShort p n) y, is-false (tooShortFor p (length b)) z) }) h)
+
 pub made-decimal : (p s : ℕ) (n : Option ℕ) (v : Value) → Ends (Made (Schema.Decimal p s n) v) (resolve-decimal p s n v)
-unfolding resolve-decimal fits resolve peel kindOf octets contents octetsHeld schemaKind
+unfolding resolve-decimal
 made-decimal p s n v =
     ends-if _ (ltb p s) _ _ (λ _. tt)
-    λ a. ends-if _ (fixedTooShort p n) _ _ (λ _. tt)
-    λ b. ends-if _ (is Kind.Decimal v || is Kind.Fixed v || is Kind.Bytes v) _ _
-    (λ t. ends-if _ (tooShortFor p (length (octets v))) _ _ (λ _. tt)
-    (λ c. some-octets Kind.Decimal (octets v) (Schema.Decimal p s n) v
-    (λ _. record { fitting = tt; again = rw (is-false (ltb p s) a, is-false (fixedTooShort p n) b, is-false (tooShortFor p (length (octets v))) c) })
+    λ x. ends-if _ (fixedTooShort p n) _ _ (λ _. tt)
+    λ y. ends-if _ (is Kind.Decimal v || is Kind.Fixed v || is Kind.Bytes v) _ _
+    (λ t. precise p s n x y v (octets v)
     (λ e h. or-cases (is Kind.Decimal v || is Kind.Fixed v) (is Kind.Bytes v) _ t
-    (λ u. or-cases (is Kind.Decimal v) (is Kind.Fixed v) _ u (decimal-lt v e h) (fixed-lt v e h)) (bytes-lt v e h))))
+    (λ u. or-cases (is Kind.Decimal v) (is Kind.Fixed v) _ u (decimal-lt v e h) (fixed-lt v e h)) (bytes-lt v e h)))
     λ _. ends-if _ (is Kind.String v) _ _
     (λ t. ends-after (λ b. length b ≤ length (octets v)) _ (textPoints (codePoints (octets v))) _ (textPoints-length (octets v))
-    λ b l. some-octets Kind.Decimal b (Schema.Decimal p s n) v (λ m. absurd (T-not (is Kind.String v) m t))
-    (λ e h. lt→ltb (length b) 65536 (omega (arith, ltb→lt (length (octets v)) 65536 (string-lt v e h t)))))
+    λ b l. precise p s n x y v b (λ e h. lt→ltb (length b) 65536 (omega (arith, ltb→lt (length (octets v)) 65536 (string-lt v e h t)))))
     (λ _. tt)
 
 pub made-duration : (n : ℕ) (v : Value) → Ends (Made (Schema.Duration n) v) (resolve-duration v)
@@ -465,7 +472,7 @@ made-duration n v =
     ends-if _ (is Kind.Duration v) _ _ (λ t. as-it-was Kind.Duration tt (Schema.Duration n) v t (λ u. u) (λ p. rw (p, is-true (is Kind.Duration v) t)))
     λ _. ends-if _ (is Kind.Fixed v) _ _
     (λ _. ends-if _ (eqb (length (octets v)) 12) _ _
-    (λ t. some-octets Kind.Duration (octets v) (Schema.Duration n) v (λ _. record { fitting = tt; again = refl }) (λ e h. t)) (λ _. tt))
+    (λ t. some-octets Kind.Duration (octets v) (Schema.Duration n) v (record { fitting = tt; again = refl }) (λ e h. t)) (λ _. tt))
     (λ _. tt)
 
 -- ---- Uuid
@@ -479,7 +486,7 @@ uuid-stable (UuidForm.fixed n) s = record { fitting = tt; again = refl }
 module _ (f : UuidForm) (v : Value) where
   a-uuid : (s : List ℕ) → length s ≡ 16 → Made (Schema.Uuid f) v (Value.Octets Kind.Uuid s)
   unfolding contents octetsHeld
-  a-uuid s p = some-octets Kind.Uuid s (Schema.Uuid f) v (λ _. uuid-stable f s) (λ e h. eq→eqb p)
+  a-uuid s p = some-octets Kind.Uuid s (Schema.Uuid f) v (uuid-stable f s) (λ e h. eq→eqb p)
 
   uuid-sized : (n : ℕ) (s : List ℕ) → T (listed n) → Ends (Made (Schema.Uuid f) v) (uuidOfBytes n s)
   unfolding uuidOfBytes
@@ -531,7 +538,7 @@ module _ (ss : List Text) (d : Option Text) (v : Value) where
   unfolding enumAt resolve-enum orDefault fits resolve peel kindOf octets index held keysRise
   made-symbol s t none q p = tt
   made-symbol s t (some i) q p = record {
-    stable = λ _. record { fitting = p; again = rw q };
+    stable = record { fitting = p; again = rw q };
     holds = λ f g e h. and-i (ltb i (256 ^ 4)) (textHeld s) (lt→ltb i (256 ^ 4) (omega (arith, symbol-at ss i s p .0, ltb→lt (length ss) 65536 (g .1)))) (t (g .2) e h);
     keys = tt;
   }

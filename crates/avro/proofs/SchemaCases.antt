@@ -23,32 +23,6 @@ childless (Schema.Map s) = false
 childless (Schema.Record fs) = false
 childless (Schema.Union vs ks ns) = false
 
--- a schema that is no union
-unfoldable pub single : Schema → Bool
-single (Schema.Plain k) = true
-single (Schema.Fixed n) = true
-single (Schema.Decimal p s n) = true
-single (Schema.Uuid f) = true
-single (Schema.Duration n) = true
-single (Schema.Enum ss d) = true
-single (Schema.Array s) = true
-single (Schema.Map s) = true
-single (Schema.Record fs) = true
-single (Schema.Union vs ks ns) = false
-
-pub leaf-single : (s : Schema) → T (childless s) → T (single s)
-unfolding childless single
-leaf-single (Schema.Plain k) l = tt
-leaf-single (Schema.Fixed n) l = tt
-leaf-single (Schema.Decimal p s n) l = tt
-leaf-single (Schema.Uuid f) l = tt
-leaf-single (Schema.Duration n) l = tt
-leaf-single (Schema.Enum ss d) l = tt
-leaf-single (Schema.Array s) l = absurd l
-leaf-single (Schema.Map s) l = absurd l
-leaf-single (Schema.Record fs) l = absurd l
-leaf-single (Schema.Union vs ks ns) l = absurd l
-
 abbrev pub NotUnion : Schema → Type 0
 NotUnion s = T (not (eqb (schemaKind s) Kind.Union))
 

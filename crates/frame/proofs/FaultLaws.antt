@@ -76,7 +76,7 @@ pub field-sound : {n : Text} {d : Option Value} {s : Schema} {fs : Fields} → F
 field-sound (first-field {n} {d} {s} {fs}) h = let r = sound-field n d s fs h in (r .allowed, r .schema)
 field-sound (later-field {n} {m} {d} {e} {s} {t} {fs} i) h = field-sound i (sound-field m e t fs h .rest)
 
-has-field : {n : Text} {d : Option Value} {s : Schema} {fs : Fields} → FieldOf n d s fs → T (hasField n fs)
+pub has-field : {n : Text} {d : Option Value} {s : Schema} {fs : Fields} → FieldOf n d s fs → T (hasField n fs)
 unfolding hasField
 has-field (first-field {n}) = rw (same-refl n) tt
 has-field (later-field {n} {m} {d} {e} {s} {t} {fs} i) = or-r (same m n) (hasField n fs) (has-field i)

@@ -1,19 +1,20 @@
 -- Code points as bytes: what resolve_decimal makes of a String.
 use Prim.Native.Nat.{ℕ, suc, _≤_, _<_}
-use mathlib.Core.Path.{_≡_, refl}
+use mathlib.Core.Path.{_≡_}
 use mathlib.Core.List.{List, [], _∷_}
 use mathlib.Core.Option.{Option, none, some}
-use mathlib.Core.Bool.{Bool, true, false, _&&_, _||_}
+use mathlib.Core.Bool.{Bool, true, false, _||_}
 use native.Mathlib.Omega.{arith}
 use borrow.Author.Tests.{ne-eqb, lt-ltb, le-ltb}
-use lib.Dec.{leb, eqb}
+use lib.Dec.{eqb}
 use lib.ListN.{length}
-use Rattle.base.specs.Base.{if_then_else_, Result, ok, stop, after}
+use Rattle.base.specs.Base.{if_then_else_, stop, after}
 use Rattle.utf8.specs.Utf8.{isUtf8, codePoints, pointsFrom, ended, stepOf, digitsOf, allLatin1}
 use Rattle.frame.specs.Kind
 use Rattle.frame.specs.Tree.{Value, kindOf, octets}
 use Rattle.types.specs.Types.{decimalOfBytes, pointBytes, textPoints, fixedTooShort, resolve-decimal}
 use Rattle.types.specs.Contract.{orNone, points}
+use Rattle.types.proofs.Strings.{pointBytes-is}
 
 -- ---- code points of a text
 
@@ -41,29 +42,19 @@ length-points s = go (isUtf8 s) _ (points-below _ 0 s)
 
 -- ---- code points as bytes
 
-pointBytes-is : (ps : List ℕ) → pointBytes ps ≡ (if allLatin1 ps then ok ps else stop 6)
-unfolding pointBytes allLatin1
-pointBytes-is [] = refl
-pointBytes-is (p ∷ ps) = rw (pointBytes-is ps) (go (leb p 255) (allLatin1 ps))
-  where
-    go : (a b : Bool) → _≡_ {A = Result (List ℕ)} (if a then after (if b then ok ps else stop 6) (λ s. ok (p ∷ s)) else stop 6) (if a && b then ok (p ∷ ps) else stop 6)
-    go true true = unfold after in refl
-    go true false = unfold after in refl
-    go false b = refl
-
 text-points : (t : List ℕ) → isUtf8 t ≡ true → textPoints (codePoints t) ≡ pointBytes (points t)
 unfolding textPoints codePoints points orNone
 text-points t u = rw u
 
-pub decimal-accepted : (t : List ℕ) → isUtf8 t ≡ true → allLatin1 (points t) ≡ true
-    → after (textPoints (codePoints t)) (λ s. ok (Value.Octets Kind.Decimal s)) ≡ ok (Value.Octets Kind.Decimal (points t))
+pub decimal-accepted : (p : ℕ) (t : List ℕ) → isUtf8 t ≡ true → allLatin1 (points t) ≡ true
+    → after (textPoints (codePoints t)) (λ s. decimalOfBytes p s) ≡ decimalOfBytes p (points t)
 unfolding after
-decimal-accepted t u h = rw (text-points t u, pointBytes-is (points t), h)
+decimal-accepted p t u h = rw (text-points t u, pointBytes-is (points t), h)
 
-pub decimal-refused : (t : List ℕ) → isUtf8 t ≡ true → allLatin1 (points t) ≡ false
-    → after (textPoints (codePoints t)) (λ s. ok (Value.Octets Kind.Decimal s)) ≡ stop 6
+pub decimal-refused : (p : ℕ) (t : List ℕ) → isUtf8 t ≡ true → allLatin1 (points t) ≡ false
+    → after (textPoints (codePoints t)) (λ s. decimalOfBytes p s) ≡ stop 6
 unfolding after
-decimal-refused t u h = rw (text-points t u, pointBytes-is (points t), h)
+decimal-refused p t u h = rw (text-points t u, pointBytes-is (points t), h)
 
 -- ---- resolve_decimal, way by way
 
@@ -83,7 +74,7 @@ module _ (p c : ℕ) (size : Option ℕ) where
       unfolding resolve-decimal kindOf octets
       decimal-bytes k t e = rw (le-ltb p c h, g, e)
 
-      pub decimal-String : (t : List ℕ) → resolve-decimal p c size (Value.Octets Kind.String t) ≡ after (textPoints (codePoints t)) (λ s. ok (Value.Octets Kind.Decimal s))
+      pub decimal-String : (t : List ℕ) → resolve-decimal p c size (Value.Octets Kind.String t) ≡ after (textPoints (codePoints t)) (λ s. decimalOfBytes p s)
       unfolding resolve-decimal kindOf octets
       decimal-String t = rw (le-ltb p c h, g)
 

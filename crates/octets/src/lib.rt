@@ -10,14 +10,14 @@ ghost use mathlib.Core.Bool.{true};
 ghost use mathlib.Core.Option.{some, none};
 ghost use Prim.Native.Nat.{ℕ, _<_, _≤_};
 ghost use lib.ListN.{length, drop};
-ghost use Rattle.base.specs.Base.{if_then_else_, ok, after};
+ghost use Rattle.base.specs.Base.{if_then_else_, after};
 ghost use Rattle.number.specs.Number.{bytesOf};
 ghost use Rattle.utf8.specs.Utf8.{isUtf8, codePoints, allLatin1};
 ghost use Rattle.text.specs.Measured.{Reads};
 ghost use Rattle.text.specs.Read.{readCounted};
 ghost use Rattle.uuid.specs.Uuid.{uuidOfText};
 ghost use Rattle.frame.specs.Kind;
-ghost use Rattle.frame.specs.Tree.{Value, UuidForm};
+ghost use Rattle.frame.specs.Tree.{UuidForm};
 ghost use Rattle.frame.specs.ValueFrame.{readValue};
 ghost use Rattle.buffer.specs.Built.{Built, Wrote};
 ghost use Rattle.types.specs.Types.{resolve-string, resolve-fixed, resolve-decimal, resolve-uuid, resolve-duration, stringOfBytes, fixedOfBytes, decimalOfBytes, durationOfBytes, fixedTooShort, textPoints, uuidOfBytes, parsedUuid};
@@ -87,13 +87,13 @@ fn fixed_of(size: usize, t: &[u8], out: &mut [u8]) -> Answer
     Answer::Refused(refusal::SIZE_DIFFERS)
 }
 
-// A String's length is not looked at.
 pub fn resolve_fixed(size: usize, v: &[u8], out: &mut [u8], depth: usize) -> Answer
     requires { ⌜ Reads (readValue depth (now v)) ⌝ }
     ensures { λ r. ⌜ Wrote (onRead (λ w. encoded (resolve-fixed size w)) (readValue depth (now (v .entry)))) (now (out .exit)) r ⌝ }
 {
     if v[0] == kind::STRING {
-        return Answer::Accepted(put_counted(out, 13, content(v)));
+        let t = content(v);
+        return fixed_of(size, t, out);
     }
     if v[0] == kind::FIXED {
         return fixed_of(size, content(v), out);
@@ -245,17 +245,26 @@ fn append_points(t: &[u8], n: usize, out: &mut [u8], at: usize) -> usize
     buffer::joined(at, m)
 }
 
-// A decimal's digits as text: each code point is a byte.
-fn decimal_text(t: &[u8], out: &mut [u8]) -> Answer
+// A text's n code points as a Decimal, a byte for each, where they are enough for the precision.
+fn decimal_points(precision: u32, t: &[u8], n: usize, out: &mut [u8]) -> Answer
+    requires { ⌜ (isUtf8 (now t) ≡ true) × (allLatin1 (points (now t)) ≡ true) × (n ≡ length (points (now t))) × (length (now t) < 65536) ⌝ }
+    ensures { λ r. ⌜ Wrote (encoded (decimalOfBytes precision (points (now (t .entry))))) (now (out .exit)) r ⌝ }
+{
+    if decimal::too_short_for(precision, n) {
+        return Answer::Refused(refusal::BYTES_TOO_FEW);
+    }
+    let h = [14, (n / 256) as u8, (n % 256) as u8];
+    let at = buffer::put(out, &h);
+    Answer::Accepted(append_points(t, n, out, at))
+}
+
+// A text as a Decimal: a code point above 255 is no byte, and comes before too few of them.
+fn decimal_text(precision: u32, t: &[u8], out: &mut [u8]) -> Answer
     requires { ⌜ (isUtf8 (now t) ≡ true) × (length (now t) < 65536) ⌝ }
-    ensures { λ r. ⌜ Wrote (encoded (after (textPoints (codePoints (now (t .entry)))) (λ s. ok (Value.Octets Kind.Decimal s)))) (now (out .exit)) r ⌝ }
+    ensures { λ r. ⌜ Wrote (encoded (after (textPoints (codePoints (now (t .entry)))) (λ s. decimalOfBytes precision s))) (now (out .exit)) r ⌝ }
 {
     match utf8::latin1_len(t) {
-        utf8::Points::Of(n) => {
-            let h = [14, (n / 256) as u8, (n % 256) as u8];
-            let at = buffer::put(out, &h);
-            Answer::Accepted(append_points(t, n, out, at))
-        }
+        utf8::Points::Of(n) => decimal_points(precision, t, n, out),
         utf8::Points::Above => Answer::Refused(refusal::UNSUITED),
     }
 }
@@ -288,7 +297,7 @@ pub fn resolve_decimal(
         return decimal_of(precision, content(v), out);
     }
     if v[0] == kind::STRING {
-        return decimal_text(content(v), out);
+        return decimal_text(precision, content(v), out);
     }
     Answer::Refused(refusal::UNSUITED)
 }

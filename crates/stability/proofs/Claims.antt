@@ -113,7 +113,7 @@ result-tree {schema} {value} {result} a =
     let k : T (keysRise r) = okay-is (λ r. T (keysRise r)) (resolve (a .suits .tree) (a .suits .input)) r (keys-resolve (a .suits .tree) (m .sound) (a .suits .input) (m .keys)) (m .resolved) in (
       r,
       frame-back r result (m .bytes) (m .size) h,
-      settled (a .suits .tree) (m .sound) (a .suits .pairs) (a .suits .input) r (a .suits .no-string) (m .resolved),
+      settled (a .suits .tree) (m .sound) (a .suits .pairs) (a .suits .input) r (m .resolved),
       k,
       sym (m .bytes),
     )

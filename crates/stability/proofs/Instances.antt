@@ -1,4 +1,5 @@
--- An instance of each claim of demand 3, with nothing left to assume: the starred nullable Double of docs/RULES.md, and a record with and without a further field.
+-- An instance of each claim of demand 3, with nothing left to assume: the starred nullable Double of docs/RULES.md, a sail number for a Fixed, and a record with and without
+-- a further field.
 use Prim.Native.Nat.{ℕ}
 use native.Mathlib.Omega.{arith}
 use mathlib.Core.Path.{_≡_, refl, sym, ap, _∙_}
@@ -59,14 +60,13 @@ abbrev buffer : List ℕ
 buffer = hex "0102030405060708090a0b0c0d0e"
 
 pub double-suits : Suits double five
-unfolding computed Pairs.nullablePairs Pairs.nullablePair Pairs.onlyNullLeadsTo Stability.noStringMeets Stability.notStringIntoBytes Stability.meetings
+unfolding computed Pairs.nullablePairs Pairs.nullablePair Pairs.onlyNullLeadsTo
 double-suits = record {
   tree = Schema.Union (variant (Schema.Plain Kind.Null) (variant (Schema.Plain Kind.Double) noVariants)) ((0, 0) ∷ (5, 1) ∷ []) [];
   input = Value.Scalar Kind.Int 5;
   schema-is = refl;
   value-is = refl;
   pairs = tt;
-  no-string = tt;
 }
 
 double-called : Called double five buffer fiveDouble (room .0) (workspaceAfter (ok fiveDouble) (room .0)) (Accepted 14)
@@ -92,6 +92,48 @@ pub double-repeats : AllGive (take 14 fiveDouble) (again ∷ again ∷ [])
 unfolding Repeats
 double-repeats =
     repeating double five buffer fiveDouble (room .0) (workspaceAfter (ok fiveDouble) (room .0)) 14 double-called double-suits (again ∷ again ∷ []) double-repeated
+
+-- ---- a sail number of four letters, `GBR7`, for a Fixed of 4
+
+abbrev fixed : List ℕ
+fixed = hex "0d0004"
+
+abbrev sail : List ℕ
+sail = hex "07000447425237"
+
+abbrev fixedSail : List ℕ
+fixedSail = hex "0d000447425237"
+
+pub sail-suits : Suits fixed sail
+unfolding computed Pairs.nullablePairs
+sail-suits = record {
+  tree = Schema.Fixed 4;
+  input = Value.Octets Kind.String (0x47 ∷ 0x42 ∷ 0x52 ∷ 0x37 ∷ []);
+  schema-is = refl;
+  value-is = refl;
+  pairs = tt;
+}
+
+sail-called : Called fixed sail sail fixedSail (room .0) (workspaceAfter (ok fixedSail) (room .0)) (Accepted 7)
+unfolding computed
+sail-called = called fixed sail sail fixedSail tt tt refl
+
+-- its result fits
+pub sail-fits : (r : Value) × (decodeValue (take 7 fixedSail) ≡ some r) × T (fits (sail-suits .tree) r)
+unfolding Fits
+sail-fits = fitting fixed sail sail fixedSail (room .0) (workspaceAfter (ok fixedSail) (room .0)) 7 sail-called sail-suits
+
+-- and repeats
+abbrev sailAgain : Repeat
+sailAgain = record { buffer = sail; buffer' = fixedSail; workspace = room .0; workspace' = workspaceAfter (ok fixedSail) (room .0); told = Accepted 7 }
+
+sail-repeated : Repeated fixed (take 7 fixedSail) (sailAgain ∷ [])
+unfolding Repeated standing computed
+sail-repeated = (called fixed fixedSail sail fixedSail tt tt refl, omega arith, omega (arith, room .1), tt)
+
+pub sail-repeats : AllGive (take 7 fixedSail) (sailAgain ∷ [])
+unfolding Repeats
+sail-repeats = repeating fixed sail sail fixedSail (room .0) (workspaceAfter (ok fixedSail) (room .0)) 7 sail-called sail-suits (sailAgain ∷ []) sail-repeated
 
 -- ---- a record of one field, `a`, with and without a further one, `b`
 

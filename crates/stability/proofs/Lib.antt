@@ -2,6 +2,5 @@ pub mod Alike
 pub mod Settle
 pub mod Claims
 pub mod Instances
-pub mod Meeting
 pub mod Stripping
 pub mod Sentences

@@ -12,10 +12,10 @@ use Rattle.text.specs.Text.{Text, same}
 use Rattle.text.proofs.TextLaws.{same→≡}
 use Rattle.frame.specs.Kind
 use Rattle.frame.specs.Tree.{Value, Values, Entries, Schema, Fields, Variants, noEntries, entry, noFields, field, noVariants, variant, kindOf, is, index, octets, items, entries, peel, schemaKind}
+use Rattle.frame.specs.Faults.{ItemOf, first-item, later-item, EntryOf, first-entry, later-entry}
 use Rattle.avro.specs.Matches.{allItems, allEntries, symbolAt, statedSize, agrees, fieldsAgree, variantAgrees, matches, namesAre, exactNames, exactFields}
 use Rattle.avro.proofs.Made.{symbol-at}
 use Rattle.stability.specs.Stability.{hasName}
-use Rattle.stability.proofs.Meeting.{Item, Held, item-holds, entry-holds}
 use Rattle.stability.proofs.Stripping.{names}
 
 unfoldable pub fieldNames : Fields → List Text
@@ -32,6 +32,16 @@ pub data InOrder : List Text → List Text → Type 0 where
 pub data VariantAt (s : Schema) : ℕ → Variants → Type 0 where
   at-zero : {vs : Variants} → VariantAt s 0 (variant s vs)
   at-suc : {i : ℕ} {t : Schema} {vs : Variants} → VariantAt s i vs → VariantAt s (suc i) (variant t vs)
+
+item-holds : (f : Value → Bool) {v : Value} {vs : Values} → ItemOf v vs → T (allItems f vs) → T (f v)
+unfolding allItems
+item-holds f {v} (first-item {vs = vs}) h = and-l (f v) (allItems f vs) h
+item-holds f (later-item {w = w} {vs = vs} i) h = item-holds f i (and-r (f w) (allItems f vs) h)
+
+entry-holds : (f : Value → Bool) {v : Value} {es : Entries} → EntryOf v es → T (allEntries f es) → T (f v)
+unfolding allEntries
+entry-holds f {v} (first-entry {es = es}) h = and-l (f v) (allEntries f es) h
+entry-holds f (later-entry {w = w} {es = es} i) h = entry-holds f i (and-r (f w) (allEntries f es) h)
 
 module _ (decimal : Option ℕ → List ℕ → Bool) where
   -- "kinds .. are equal"
@@ -100,11 +110,11 @@ module _ (decimal : Option ℕ → List ℕ → Bool) where
   matches-variant vs ks ns i v h = variant-at vs i v h
 
   -- node for node: items and map nodes match too
-  pub matches-item : (s : Schema) (vs : Values) (x : Value) → Item x vs → T (agrees decimal (Schema.Array s) (Value.Array vs)) → T (agrees decimal s x)
+  pub matches-item : (s : Schema) (vs : Values) (x : Value) → ItemOf x vs → T (agrees decimal (Schema.Array s) (Value.Array vs)) → T (agrees decimal s x)
   unfolding agrees kindOf items
   matches-item s vs x i h = item-holds (λ w. agrees decimal s w) i h
 
-  pub matches-entry : (s : Schema) (es : Entries) (x : Value) → Held x es → T (agrees decimal (Schema.Map s) (Value.Map es)) → T (agrees decimal s x)
+  pub matches-entry : (s : Schema) (es : Entries) (x : Value) → EntryOf x es → T (agrees decimal (Schema.Map s) (Value.Map es)) → T (agrees decimal s x)
   unfolding agrees kindOf entries
   matches-entry s es x i h = entry-holds (λ w. agrees decimal s w) i h
 

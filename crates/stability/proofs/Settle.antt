@@ -1,10 +1,10 @@
--- Under nullable pairs, and where no String meets Fixed or Decimal, an accepted result fits the schema and resolves to itself.
+-- Under nullable pairs an accepted result fits the schema and resolves to itself.
 use Prim.Native.Nat.{ℕ, zero, suc}
-use mathlib.Core.Path.{_≡_, refl, subst}
+use mathlib.Core.Path.{_≡_, refl}
 use mathlib.Core.List.{List}
 use mathlib.Core.Option.{Option, none, some, orElse}
-use mathlib.Core.Bool.{Bool, true, false, _&&_, _||_, not, and-false}
-use lib.Dec.{T, eqb, eqb→eq}
+use mathlib.Core.Bool.{Bool, true, false, _&&_, _||_, not}
+use lib.Dec.{T}
 use lib.Ieee.Bits.{is-true}
 use lib.Ieee.Fits.{and-l, and-r, and-i}
 use Rattle.base.specs.Base.{if_then_else_, ok, stop, after}
@@ -12,62 +12,38 @@ use Rattle.base.proofs.Okay.{okay-is}
 use Rattle.text.specs.Text.{Text, same}
 use Rattle.text.proofs.TextLaws.{same→≡}
 use Rattle.frame.specs.Kind
-use Rattle.frame.specs.Tree.{Value, Values, Entries, Schema, Fields, Variants, noItems, item, noEntries, entry, noFields, field, noVariants, variant, kindOf, is, items, entries, peel, schemaKind}
+use Rattle.frame.specs.Tree.{Value, Values, Entries, Schema, Fields, Variants, noItems, item, noEntries, entry, noFields, field, noVariants, variant, kindOf, items, entries, peel, schemaKind}
 use Rattle.frame.specs.Sound.{schemaSound, fieldsSound, variantsSound, hasField, countVariants}
 use Rattle.frame.proofs.SoundLaws.{SoundUnion, SoundVariant, sound-union, sound-variant, sound-field}
 use Rattle.types.specs.Types.{Outcome, resolve-enum}
-use Rattle.avro.specs.Union.{find-schema-with-known-schemata, resolve-union}
-use Rattle.avro.specs.Resolve.{eachItem, eachEntry, resolve-array, resolve-map, resolve-record, lastUnder, first, fieldValue, resolve, resolveFields, trials}
+use Rattle.avro.specs.Resolve.{eachItem, eachEntry, resolve-array, resolve-map, resolve-record, lastUnder, fieldValue, resolve, resolveFields}
 use Rattle.avro.specs.Matches.{allItems, allEntries, fits, fieldsFit}
-use Rattle.avro.specs.Pairs.{nullablePair, nullablePairs, fieldPairs, variantPairs, isNull, onlyNullLeadsTo}
-use Rattle.avro.proofs.Ends.{Ends, ends-after, ends-map, ends-okay}
-use Rattle.avro.proofs.SchemaCases.{childless, single, leaf-single, pair, by-pair, EveryVariant}
-use Rattle.avro.proofs.Closure.{AllItems, AllEntries, ItemsMade, EntriesMade, FieldsMade, AtVariant, InFields, Comes, Starts, comes, ends-union}
+use Rattle.avro.specs.Pairs.{nullablePair, nullablePairs, fieldPairs, variantPairs}
+use Rattle.avro.proofs.Ends.{Ends, ends-map, ends-okay}
+use Rattle.avro.proofs.SchemaCases.{pair, by-pair, EveryVariant}
+use Rattle.avro.proofs.Closure.{AllItems, AllEntries, ItemsMade, EntriesMade, FieldsMade, AtVariant, InFields, First, Comes, comes}
 use Rattle.avro.proofs.Made.{Stable, Made, made, made-enum, peel-kind}
 use Rattle.avro.proofs.PairChoice.{fits-kind, stable-0, stable-1}
-use Rattle.stability.specs.Stability.{meetings, fieldMeetings, variantMeetings, fieldMeeting, firstMeeting, notStringIntoBytes, noStringMeets}
-use Rattle.stability.proofs.Meeting.{at-roots}
 use Rattle.stability.proofs.Alike.{same-refl}
 
--- ---- what is asked: number 3 passes the schema, its unions are nullable pairs, and no String meets a Fixed or a Decimal
+-- ---- what is asked: number 3 passes the schema, and its unions are nullable pairs; of a value nothing is
 
 record Fine (s : Schema) : Type 0 where
   sound : T (schemaSound s)
   pairs : T (nullablePairs s)
 
-record In (s : Schema) (v : Value) : Type 0 where
-  fine : Fine s
-  meets : T (noStringMeets s v)
-
--- a default that goes to the first variant of a union field meets that one instead
-abbrev defaultMeets : Schema → Value → Bool
-defaultMeets s d = if eqb (schemaKind s) Kind.Union then firstMeeting notStringIntoBytes s d else meetings notStringIntoBytes s d
-
-record Start (s : Schema) (d : Value) : Type 0 where
-  fine : Fine s
-  meets : T (defaultMeets s d)
-
--- ---- leaves
-
-leaf-settles : (s : Schema) → T (childless s) → Comes In Start Stable s
-unfolding noStringMeets notStringIntoBytes
-leaf-settles s l v p = ends-map (Made s (peel v)) (Stable s) (resolve s v) (λ r m. m .stable (at-roots notStringIntoBytes s v (leaf-single s l) (p .meets))) (made s l v)
+abbrev In : Schema → Value → Type 0
+In s v = Fine s
 
 -- ---- arrays and maps
 
-items-in : (s : Schema) → Fine s → (vs : Values) → T (allItems (λ w. noStringMeets s w) vs) → AllItems (In s) vs
-unfolding allItems
-items-in s f noItems h = tt
-items-in s f (item v vs) h =
-    let rest : Bool = allItems (λ w. noStringMeets s w) vs in
-    (record { fine = f; meets = and-l (noStringMeets s v) rest h }, items-in s f vs (and-r (noStringMeets s v) rest h))
+items-in : (s : Schema) → Fine s → (vs : Values) → AllItems (In s) vs
+items-in s f noItems = tt
+items-in s f (item v vs) = (f, items-in s f vs)
 
-entries-in : (s : Schema) → Fine s → (es : Entries) → T (allEntries (λ w. noStringMeets s w) es) → AllEntries (In s) es
-unfolding allEntries
-entries-in s f noEntries h = tt
-entries-in s f (entry n v es) h =
-    let rest : Bool = allEntries (λ w. noStringMeets s w) es in
-    (record { fine = f; meets = and-l (noStringMeets s v) rest h }, entries-in s f es (and-r (noStringMeets s v) rest h))
+entries-in : (s : Schema) → Fine s → (es : Entries) → AllEntries (In s) es
+entries-in s f noEntries = tt
+entries-in s f (entry n v es) = (f, entries-in s f es)
 
 items-out : (s : Schema) (rs : Values) → AllItems (Stable s) rs → T (allItems (λ w. fits s w) rs) × (eachItem (λ w. resolve s w) rs ≡ ok rs)
 unfolding allItems eachItem after
@@ -93,20 +69,9 @@ fine-map : (s : Schema) → Fine (Schema.Map s) → Fine s
 unfolding schemaSound nullablePairs
 fine-map s f = record { sound = f .sound; pairs = f .pairs }
 
-array-in : (s : Schema) (v : Value) → In (Schema.Array s) v → AllItems (In s) (items (peel v))
-unfolding noStringMeets meetings
-array-in s v p = items-in s (fine-array s (p .fine)) (items (peel v)) (and-r (notStringIntoBytes Kind.Array (peel v)) (allItems (λ w. noStringMeets s w) (items (peel v))) (p .meets))
-
 array-out : (s : Schema) (vs rs : Values) → ItemsMade (Stable s) vs rs → Stable (Schema.Array s) (Value.Array rs)
 unfolding resolve resolve-array fits kindOf peel items after
 array-out s vs rs m = let q = items-out s rs (m .each) in record { fitting = q .0; again = rw (q .1) }
-
-map-in : (s : Schema) (v : Value) → In (Schema.Map s) v → T (is Kind.Map (peel v)) → AllEntries (In s) (entries (peel v))
-unfolding noStringMeets meetings
-map-in s v p t =
-    entries-in s (fine-map s (p .fine)) (entries (peel v))
-    (rw (is-true (is Kind.Map (peel v)) t)
-    at (and-r (notStringIntoBytes Kind.Map (peel v)) (if is Kind.Map (peel v) then allEntries (λ w. noStringMeets s w) (entries (peel v)) else true) (p .meets)))
 
 map-out : (s : Schema) (es rs : Entries) → EntriesMade (Stable s) es rs → Stable (Schema.Map s) (Value.Map rs)
 unfolding resolve resolve-map fits kindOf peel entries after
@@ -114,33 +79,17 @@ map-out s es rs m = let q = entries-out s es rs m in record { fitting = q .0; ag
 
 -- ---- records
 
-field-in : (s : Schema) → Fine s → (l d : Option Value) → T (fieldMeeting l d (λ w. noStringMeets s w) (λ w. defaultMeets s w))
-    → ((v : Value) → l ≡ some v → In s v) × ((x : Value) → l ≡ none → d ≡ some x → Start s x)
-unfolding fieldMeeting
-field-in s f l d h = (
-  λ v e. record { fine = f; meets = subst (λ (o : Option Value). T (fieldMeeting o d (λ w. noStringMeets s w) (λ w. defaultMeets s w))) e h },
-  λ x e q. record {
-    fine = f;
-    meets = subst (λ (o : Option Value). T (fieldMeeting none o (λ w. noStringMeets s w) (λ w. defaultMeets s w))) q
-        (subst (λ (o : Option Value). T (fieldMeeting o d (λ w. noStringMeets s w) (λ w. defaultMeets s w))) e h);
-  },
-)
-
-fields-in : (fs : Fields) → T (fieldsSound fs) → T (fieldPairs fs) → (es : Entries) → T (fieldMeetings notStringIntoBytes fs es) → InFields In Start Stable fs es
-unfolding meetings noStringMeets nullablePairs
-fields-in noFields z p es h = tt
-fields-in (field n d s fs) z p es h =
+fields-in : (fs : Fields) → T (fieldsSound fs) → T (fieldPairs fs) → (es : Entries) → InFields In Stable fs es
+unfolding nullablePairs
+fields-in noFields z p es = tt
+fields-in (field n d s fs) z p es =
     let f = sound-field n d s fs z in
-    let m : Bool = fieldMeeting (lastUnder n es) d (λ w. noStringMeets s w) (λ w. defaultMeets s w) in
-    let i = field-in s (record { sound = f .schema; pairs = and-l (nullablePairs s) (fieldPairs fs) p }) (lastUnder n es) d (and-l m (fieldMeetings notStringIntoBytes fs es) h) in
-    (record { value = i .0; default = i .1 }, fields-in fs (f .rest) (and-r (nullablePairs s) (fieldPairs fs) p) es (and-r m (fieldMeetings notStringIntoBytes fs es) h))
+    let g : Fine s = record { sound = f .schema; pairs = and-l (nullablePairs s) (fieldPairs fs) p } in
+    (record { value = λ _ _. g; default = λ _ _ _. g }, fields-in fs (f .rest) (and-r (nullablePairs s) (fieldPairs fs) p) es)
 
-record-in : (fs : Fields) (v : Value) → In (Schema.Record fs) v → T (is Kind.Map (peel v) || is Kind.Record (peel v)) → InFields In Start Stable fs (entries (peel v))
-unfolding noStringMeets meetings schemaSound nullablePairs
-record-in fs v p t =
-    fields-in fs (p .fine .sound) (p .fine .pairs) (entries (peel v))
-    (rw (is-true (is Kind.Map (peel v) || is Kind.Record (peel v)) t)
-    at (and-r (notStringIntoBytes Kind.Record (peel v)) (if is Kind.Map (peel v) || is Kind.Record (peel v) then fieldMeetings notStringIntoBytes fs (entries (peel v)) else true) (p .meets)))
+record-in : (fs : Fields) → Fine (Schema.Record fs) → (es : Entries) → InFields In Stable fs es
+unfolding schemaSound nullablePairs
+record-in fs f es = fields-in fs (f .sound) (f .pairs) es
 
 -- ws has each field's value of rs under its name
 abbrev EachUnder : Fields → Entries → Entries → Type 0
@@ -196,36 +145,29 @@ holds-self (field n d s fs) (entry m v rs) h f =
       holds-behind fs rs rs m v (holds-self fs rs (z .rest) f₂),
     )
 
-record-out : (fs : Fields) (v : Value) → In (Schema.Record fs) v → (rs : Entries) → FieldsMade Stable fs rs → Stable (Schema.Record fs) (Value.Record rs)
+record-out : (fs : Fields) → Fine (Schema.Record fs) → (rs : Entries) → FieldsMade Stable fs rs → Stable (Schema.Record fs) (Value.Record rs)
 unfolding resolve resolve-record fits kindOf peel entries after schemaSound
-record-out fs v p rs m =
+record-out fs g rs m =
     let f : T (fieldsFit fs rs) = fields-fit fs rs m in
-    record { fitting = f; again = rw (fields-again fs rs m rs (holds-self fs rs (p .fine .sound) f)) }
+    record { fitting = f; again = rw (fields-again fs rs m rs (holds-self fs rs (g .sound) f)) }
 
 -- ---- unions
 
-variants-in : (vs : Variants) → T (variantsSound vs) → T (variantPairs vs) → (w : Value) → T (variantMeetings notStringIntoBytes vs w) → EveryVariant (λ s. In s w) vs
-unfolding nullablePairs meetings noStringMeets
-variants-in noVariants z p w h = tt
-variants-in (variant s vs) z p w h =
+variants-in : (vs : Variants) → T (variantsSound vs) → T (variantPairs vs) → EveryVariant Fine vs
+unfolding nullablePairs
+variants-in noVariants z p = tt
+variants-in (variant s vs) z p =
     let f = sound-variant s vs z in
-    let m : Bool = variantMeetings notStringIntoBytes vs w in (
-      record { fine = record { sound = f .schema; pairs = and-l (nullablePairs s) (variantPairs vs) p }; meets = and-l (noStringMeets s w) m h },
-      variants-in vs (f .rest) (and-r (nullablePairs s) (variantPairs vs) p) w (and-r (noStringMeets s w) m h),
-    )
+    (record { sound = f .schema; pairs = and-l (nullablePairs s) (variantPairs vs) p }, variants-in vs (f .rest) (and-r (nullablePairs s) (variantPairs vs) p))
 
 module _ (vs : Variants) (ks : List (ℕ × ℕ)) (ns : List ℕ) (f : Fine (Schema.Union vs ks ns)) where
   is-pair : T (nullablePair vs ks)
   unfolding nullablePairs
   is-pair = and-l (nullablePair vs ks) (variantPairs vs) (f .pairs)
 
-  in-pairs : T (variantPairs vs)
+  union-in : EveryVariant Fine vs
   unfolding nullablePairs
-  in-pairs = and-r (nullablePair vs ks) (variantPairs vs) (f .pairs)
-
-union-in : (vs : Variants) (ks : List (ℕ × ℕ)) (ns : List ℕ) (v : Value) → In (Schema.Union vs ks ns) v → EveryVariant (λ s. In s (peel v)) vs
-unfolding noStringMeets meetings
-union-in vs ks ns v p = variants-in vs (sound-union vs ks ns (p .fine .sound) .variants) (in-pairs vs ks ns (p .fine)) (peel v) (p .meets)
+  union-in = variants-in vs (sound-union vs ks ns (f .sound) .variants) (and-r (nullablePair vs ks) (variantPairs vs) (f .pairs))
 
 module _ (a b : Schema) (ks : List (ℕ × ℕ)) (ns : List ℕ) (f : Fine (Schema.Union (pair a b) ks ns)) where
   pair-sound : SoundUnion (pair a b) ks ns
@@ -236,14 +178,6 @@ module _ (a b : Schema) (ks : List (ℕ × ℕ)) (ns : List ℕ) (f : Fine (Sche
 
   side-b : SoundVariant b noVariants
   side-b = sound-variant b noVariants (side-a .rest)
-
-  fine-a : Fine a
-  unfolding nullablePairs
-  fine-a = record { sound = side-a .schema; pairs = and-l (nullablePairs a) (nullablePairs b && true) (in-pairs (pair a b) ks ns f) }
-
-  fine-b : Fine b
-  unfolding nullablePairs
-  fine-b = record { sound = side-b .schema; pairs = and-l (nullablePairs b) true (and-r (nullablePairs a) (nullablePairs b && true) (in-pairs (pair a b) ks ns f)) }
 
   -- whichever variant something stable came of, its Union is stable
   pair-out : (i : ℕ) (r : Value) → AtVariant Stable (pair a b) i r → Stable (Schema.Union (pair a b) ks ns) (Value.Union i r)
@@ -259,97 +193,29 @@ union-out vs ks ns f =
 
 -- ---- defaults
 
-single-start : (s : Schema) → T (single s) → (d : Value) → Start s d → In s d
-unfolding single schemaKind noStringMeets meetings notStringIntoBytes
-single-start (Schema.Plain k) u d p = record { fine = p .fine; meets = go (eqb k Kind.Union) (λ t. t) (p .meets) }
-  where
-    go : (b : Bool) → (T b → T (eqb k Kind.Union)) → T (if b then true else notStringIntoBytes k (peel d)) → T (notStringIntoBytes k (peel d))
-    go true t m = rw (eqb→eq k Kind.Union (t tt)) tt
-    go false t m = m
-single-start (Schema.Fixed n) u d p = record { fine = p .fine; meets = p .meets }
-single-start (Schema.Decimal q s n) u d p = record { fine = p .fine; meets = p .meets }
-single-start (Schema.Uuid f) u d p = record { fine = p .fine; meets = p .meets }
-single-start (Schema.Duration n) u d p = record { fine = p .fine; meets = p .meets }
-single-start (Schema.Enum ss t) u d p = record { fine = p .fine; meets = p .meets }
-single-start (Schema.Array s) u d p = record { fine = p .fine; meets = p .meets }
-single-start (Schema.Map s) u d p = record { fine = p .fine; meets = p .meets }
-single-start (Schema.Record fs) u d p = record { fine = p .fine; meets = p .meets }
-single-start (Schema.Union vs ks ns) u d p = absurd u
-
-abbrev null : Value
-null = Value.Scalar Kind.Null 0
-
--- Null is no String
-null-meets : (s : Schema) → T (not (eqb (schemaKind s) Kind.Union)) → T (noStringMeets s null)
-unfolding noStringMeets meetings notStringIntoBytes schemaKind peel kindOf items entries allItems
-null-meets (Schema.Plain k) u = rw (and-false (eqb k Kind.Fixed || eqb k Kind.Decimal)) tt
-null-meets (Schema.Fixed n) u = tt
-null-meets (Schema.Decimal p s n) u = tt
-null-meets (Schema.Uuid f) u = tt
-null-meets (Schema.Duration n) u = tt
-null-meets (Schema.Enum ss d) u = tt
-null-meets (Schema.Array s) u = tt
-null-meets (Schema.Map s) u = tt
-null-meets (Schema.Record fs) u = tt
-null-meets (Schema.Union vs ks ns) u = absurd u
-
--- anything may meet Null
-meets-null : (s : Schema) → T (isNull s) → (x : Value) → T (noStringMeets s x)
-unfolding noStringMeets meetings notStringIntoBytes schemaKind
-meets-null (Schema.Plain k) h x = rw (eqb→eq k Kind.Null h) tt
-meets-null (Schema.Fixed n) h x = absurd h
-meets-null (Schema.Decimal p s n) h x = absurd h
-meets-null (Schema.Uuid f) h x = absurd h
-meets-null (Schema.Duration n) h x = absurd h
-meets-null (Schema.Enum ss d) h x = absurd h
-meets-null (Schema.Array s) h x = absurd h
-meets-null (Schema.Map s) h x = absurd h
-meets-null (Schema.Record fs) h x = absurd h
-meets-null (Schema.Union vs ks ns) h x = absurd h
-
-pair-start : (a b : Schema) (ks : List (ℕ × ℕ)) (ns : List ℕ) → EveryVariant (Comes In Start Stable) (pair a b) → Comes In Start Stable (Schema.Union (pair a b) ks ns)
-    → Starts In Start Stable (Schema.Union (pair a b) ks ns)
-unfolding nullablePair meetings noStringMeets resolve first resolve-union schemaKind after peel
-pair-start a b ks ns c f d p = go (isNull a) (p .meets) (is-pair (pair a b) ks ns (p .fine))
-  where
-    go : (x : Bool) → T (if x then true else noStringMeets a d) → T (if x then not (isNull b) && onlyNullLeadsTo 0 ks else isNull b && onlyNullLeadsTo 1 ks)
-        → Ends (λ w. Ends (Stable (Schema.Union (pair a b) ks ns)) (resolve (Schema.Union (pair a b) ks ns) w)) (after (if x then ok null else resolve a d) (λ r. ok (Value.Union 0 r)))
-    go true m k = f (Value.Union 0 null) (record {
-      fine = p .fine;
-      meets = and-i (noStringMeets a null) (noStringMeets b null && true) (null-meets a (side-a a b ks ns (p .fine) .no-union))
-          (and-i (noStringMeets b null) true (null-meets b (side-b a b ks ns (p .fine) .no-union)) tt);
-    })
-    go false m k =
-        ends-after (Stable a) _ (resolve a d) _ (c .0 d (record { fine = fine-a a b ks ns (p .fine); meets = m }))
-        λ x s. ends-union In Start Stable (pair a b) (Schema.Union (pair a b) ks ns) (pair-out a b ks ns (p .fine)) x
-        (rw (s .again) s, (c .1 .0 x (record { fine = fine-b a b ks ns (p .fine); meets = meets-null b (and-l (isNull b) (onlyNullLeadsTo 1 ks) k) x }), tt))
-        (find-schema-with-known-schemata (trials (pair a b) x) ks ns (kindOf x))
-
-union-start : (vs : Variants) (ks : List (ℕ × ℕ)) (ns : List ℕ) → EveryVariant (Comes In Start Stable) vs → Comes In Start Stable (Schema.Union vs ks ns)
-    → Starts In Start Stable (Schema.Union vs ks ns)
-union-start vs ks ns c f d p =
-    by-pair (λ us. EveryVariant (Comes In Start Stable) us → Comes In Start Stable (Schema.Union us ks ns) → Starts In Start Stable (Schema.Union us ks ns)) vs ks
-    (is-pair vs ks ns (p .fine)) (λ a b. pair-start a b ks ns) c f d p
+first-in : (u : Schema) → Fine u → (vs : Variants) → EveryVariant Fine vs → (d : Value) → First In Stable u vs d
+first-in u f noVariants g d = tt
+first-in u f (variant s vs) g d = (g .0, λ _ _. f)
 
 -- ---- any schema
 
 -- a result that comes out fits its schema and resolves to itself
-pub settled : (s : Schema) → T (schemaSound s) → T (nullablePairs s) → (v r : Value) → T (noStringMeets s v) → resolve s v ≡ ok r → Stable s r
-settled s h p v r m e = okay-is (Stable s) (resolve s v) r (ends-okay (Stable s) (resolve s v) (settles s v (record { fine = record { sound = h; pairs = p }; meets = m }))) e
+pub settled : (s : Schema) → T (schemaSound s) → T (nullablePairs s) → (v r : Value) → resolve s v ≡ ok r → Stable s r
+settled s h p v r e = okay-is (Stable s) (resolve s v) r (ends-okay (Stable s) (resolve s v) (settles s v (record { sound = h; pairs = p }))) e
   where
-    settles : (s : Schema) → Comes In Start Stable s
-    settles = comes In Start Stable (record {
-      leaf = leaf-settles;
-      array-in = array-in;
+    settles : (s : Schema) → Comes In Stable s
+    settles = comes In Stable (record {
+      leaf = λ s l v p. ends-map (Made s (peel v)) (Stable s) (resolve s v) (λ r m. m .stable) (made s l v);
+      array-in = λ s v p. items-in s (fine-array s p) (items (peel v));
       array-out = λ s v p rs m. array-out s (items (peel v)) rs m;
-      map-in = map-in;
+      map-in = λ s v p t. entries-in s (fine-map s p) (entries (peel v));
       map-out = λ s v p t rs m. map-out s (entries (peel v)) rs m;
-      record-in = record-in;
-      record-out = record-out;
-      union-in = union-in;
-      union-out = λ vs ks ns v p. union-out vs ks ns (p .fine);
-      single-start = single-start;
-      union-start = union-start;
+      record-in = λ fs v p t. record-in fs p (entries (peel v));
+      record-out = λ fs v p rs m. record-out fs p rs m;
+      union-in = λ vs ks ns v p. union-in vs ks ns p;
+      union-out = λ vs ks ns v p. union-out vs ks ns p;
+      null-in = λ vs ks ns d p. p;
+      first-in = λ vs ks ns d p. first-in (Schema.Union vs ks ns) p vs (union-in vs ks ns p) d;
     })
 
 -- the Rust resolves the default of an Enum field twice, which is once
@@ -358,5 +224,5 @@ unfolding after resolve schemaKind
 enum-twice ss d v = go (resolve-enum ss d v) (made-enum ss d v)
   where
     go : (o : Outcome) → Ends (Made (Schema.Enum ss d) v) o → after o (resolve-enum ss d) ≡ o
-    go (ok r) p = rw (peel-kind r (rw (fits-kind (Schema.Enum ss d) r (p .stable tt .fitting)) tt)) at (p .stable tt .again)
+    go (ok r) p = rw (peel-kind r (rw (fits-kind (Schema.Enum ss d) r (p .stable .fitting)) tt)) at (p .stable .again)
     go (stop n) p = refl

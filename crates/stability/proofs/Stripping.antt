@@ -13,12 +13,13 @@ use Rattle.text.proofs.TextLaws.{same→≡}
 use Rattle.frame.specs.Kind
 use Rattle.frame.specs.Tree.{Value, Values, Entries, Schema, Fields, item, noEntries, entry, noFields, field, noVariants, variant, entries}
 use Rattle.frame.specs.Sound.{fieldsSound, hasField}
+use Rattle.frame.specs.Faults.{FieldOf, first-field, later-field}
 use Rattle.frame.proofs.SoundLaws.{sound-field}
+use Rattle.frame.proofs.FaultLaws.{has-field}
 use Rattle.avro.specs.Resolve.{lastUnder}
 use Rattle.avro.specs.Pairs.{isNull}
 use Rattle.stability.specs.Stability.{underUnion, change, mapItems, mapEntries, hasName, keepEntry, keepEntries, strip, stripField}
 use Rattle.stability.proofs.Alike.{same-refl, lastUnder-keep, null-strip}
-use Rattle.stability.proofs.Meeting.{FieldOf, this-field, later-field}
 
 -- what a Record or a Map keeps that meets a Record schema
 abbrev pub kept : Fields → Entries → Entries
@@ -118,18 +119,9 @@ added-alike-map fs m x h es gs = strip-map fs (behind es (entry m x gs)) ∙ ap 
 
 -- ---- alike records have alike values under each name that the schema has, where it is the last of its name
 
-field-has : {n : Text} {d : Option Value} {s : Schema} {fs : Fields} → FieldOf n d s fs → hasField n fs ≡ true
-unfolding hasField
-field-has {n} this-field = rw (is-true (same n n) (same-refl n))
-field-has {n} (later-field {m = m} i) = go (same m n) (field-has i)
-  where
-    go : (b : Bool) {c : Bool} → c ≡ true → (b || c) ≡ true
-    go true e = refl
-    go false e = e
-
 strip-at : {n : Text} {d : Option Value} {s : Schema} {fs : Fields} → FieldOf n d s fs → T (fieldsSound fs) → (v : Value) → stripField fs n v ≡ some (strip s v)
 unfolding stripField
-strip-at {n} this-field h v = rw (is-true (same n n) (same-refl n))
+strip-at {n} first-field h v = rw (is-true (same n n) (same-refl n))
 strip-at {n} (later-field {m = m} {e = e} {t = t} {fs = fs} i) h v =
     let f = sound-field m e t fs h in
     rw (go (same m n) refl (f .new)) (strip-at i (f .rest) v)
@@ -137,7 +129,7 @@ strip-at {n} (later-field {m = m} {e = e} {t = t} {fs = fs} i) h v =
     go : (b : Bool) → same m n ≡ b → T (not (hasField m fs)) → b ≡ false
     go true p new =
         let q : m ≡ n = same→≡ m n (rw p tt) in
-        absurd (T-not (hasField m fs) new (rw (ap (λ (k : Text). hasField k fs) q ∙ field-has i) tt))
+        absurd (T-not (hasField m fs) new (rw (ap (λ (k : Text). hasField k fs) q) (has-field i)))
     go false p new = refl
 
 pub kept-value : {n : Text} {d : Option Value} {s : Schema} {fs : Fields} → FieldOf n d s fs → T (fieldsSound fs) → (es : Entries)

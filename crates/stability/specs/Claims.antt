@@ -18,7 +18,7 @@ use Rattle.hulmbax.specs.declared.Resolved.{Resolved}
 use Rattle.hulmbax.specs.declared.Resolved.the-variants.{Accepted, Refused}
 use Rattle.avro.specs.Matches.{fits}
 use Rattle.avro.specs.Pairs.{nullablePairs}
-use Rattle.stability.specs.Stability.{noStringMeets, strip}
+use Rattle.stability.specs.Stability.{strip}
 
 -- a call of the entry with a schema and a record: what the result buffer and the workspace hold before and after it, and its answer. The slices hold bytes,
 -- and the three equalities are the entry's contract
@@ -31,14 +31,13 @@ pub record Called (schema value buffer buffer' workspace workspace' : List ℕ) 
 
 -- ---- fitting and repeating
 
--- what they are claimed of: a schema whose unions are nullable pairs, and a record in which no String meets a Fixed or a Decimal
+-- what they are claimed of: a schema whose unions are nullable pairs, and any record
 pub record Suits (schema value : List ℕ) : Type 0 where
   pub tree : Schema
   pub input : Value
   pub schema-is : decodeSchema schema ≡ some tree
   pub value-is : decodeValue value ≡ some input
   pub pairs : T (nullablePairs tree)
-  pub no-string : T (noStringMeets tree input)
 
 -- an accepted result is a frame that fits the schema
 unfoldable pub Fits : Type 0

@@ -1,79 +1,10 @@
--- The words of demand 3, as docs/RULES.md has them under "What is promised of results": what it is to meet, and what alike records lose.
-use Prim.Native.Nat.{ℕ}
+-- What alike records lose (docs/RULES.md, "What is promised of results").
 use mathlib.Core.Option.{Option, none, some}
-use mathlib.Core.Bool.{Bool, true, false, _&&_, _||_, not}
-use lib.Dec.{eqb}
+use mathlib.Core.Bool.{Bool, true, false, _||_}
 use Rattle.base.specs.Base.{if_then_else_}
 use Rattle.text.specs.Text.{Text, same}
 use Rattle.frame.specs.Kind
-use Rattle.frame.specs.Tree.{Value, Values, Entries, Schema, Fields, Variants, noItems, item, noEntries, entry, noFields, field, noVariants, variant, is, items, entries, peel, schemaKind}
-use Rattle.avro.specs.Resolve.{lastUnder}
-use Rattle.avro.specs.Matches.{allItems, allEntries}
-use Rattle.avro.specs.Pairs.{isNull}
-
--- ---- meeting
-
--- a field's value, or its default where the name is missing
-unfoldable pub fieldMeeting : Option Value → Option Value → (Value → Bool) → (Value → Bool) → Bool
-fieldMeeting (some v) d onValue onDefault = onValue v
-fieldMeeting none none onValue onDefault = true
-fieldMeeting none (some d) onValue onDefault = onDefault d
-
--- P holds of each kind of schema and value that meet (the rules' term), the value once peeled
-module _ (P : ℕ → Value → Bool) where
-  unfoldable mutual
-    pub meetings : Schema → Value → Bool
-    meetings (Schema.Plain k) v = P k (peel v)
-    meetings (Schema.Fixed n) v = P Kind.Fixed (peel v)
-    meetings (Schema.Decimal p s n) v = P Kind.Decimal (peel v)
-    meetings (Schema.Uuid f) v = P Kind.Uuid (peel v)
-    meetings (Schema.Duration n) v = P Kind.Duration (peel v)
-    meetings (Schema.Enum ss d) v = P Kind.Enum (peel v)
-    meetings (Schema.Array s) v = P Kind.Array (peel v) && allItems (λ w. meetings s w) (items (peel v))
-    meetings (Schema.Map s) v =
-        P Kind.Map (peel v) && (if is Kind.Map (peel v) then allEntries (λ w. meetings s w) (entries (peel v)) else true)
-    meetings (Schema.Record fs) v =
-        P Kind.Record (peel v) && (if is Kind.Map (peel v) || is Kind.Record (peel v) then fieldMeetings fs (entries (peel v)) else true)
-    meetings (Schema.Union vs ks ns) v = variantMeetings vs (peel v)
-
-    -- field by field: the last value under the name, or the default
-    pub fieldMeetings : Fields → Entries → Bool
-    fieldMeetings noFields es = true
-    fieldMeetings (field n d s fs) es =
-        fieldMeeting (lastUnder n es) d (λ w. meetings s w) (λ w. if eqb (schemaKind s) Kind.Union then firstMeeting s w else meetings s w)
-        && fieldMeetings fs es
-
-    -- each variant
-    pub variantMeetings : Variants → Value → Bool
-    variantMeetings noVariants v = true
-    variantMeetings (variant s vs) v = meetings s v && variantMeetings vs v
-
-    -- the default of a union field meets the first variant instead
-    pub firstMeeting : Schema → Value → Bool
-    firstMeeting (Schema.Plain k) d = true
-    firstMeeting (Schema.Fixed n) d = true
-    firstMeeting (Schema.Decimal p s n) d = true
-    firstMeeting (Schema.Uuid f) d = true
-    firstMeeting (Schema.Duration n) d = true
-    firstMeeting (Schema.Enum ss e) d = true
-    firstMeeting (Schema.Array s) d = true
-    firstMeeting (Schema.Map s) d = true
-    firstMeeting (Schema.Record fs) d = true
-    firstMeeting (Schema.Union vs ks ns) d = firstVariantMeeting vs d
-
-    -- and nothing if that is Null
-    pub firstVariantMeeting : Variants → Value → Bool
-    firstVariantMeeting noVariants d = true
-    firstVariantMeeting (variant s vs) d = if isNull s then true else meetings s d
-
-unfoldable pub notStringIntoBytes : ℕ → Value → Bool
-notStringIntoBytes k v = not ((eqb k Kind.Fixed || eqb k Kind.Decimal) && is Kind.String v)
-
--- no String meets Fixed or Decimal
-unfoldable pub noStringMeets : Schema → Value → Bool
-noStringMeets s v = meetings notStringIntoBytes s v
-
--- ---- being alike
+use Rattle.frame.specs.Tree.{Value, Values, Entries, Schema, Fields, Variants, noItems, item, noEntries, entry, noFields, field, noVariants, variant}
 
 -- under one Union, if the value is one
 unfoldable pub underUnion : (Value → Value) → Value → Value
