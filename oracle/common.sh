@@ -5,7 +5,7 @@ root=$(dirname "$here")
 out=$here/out
 packages="librust-bigdecimal-dev librust-digest-dev librust-log-dev librust-num-bigint-dev
   librust-num-traits-dev librust-serde-dev librust-serde-json-dev librust-strum-macros-dev
-  librust-uuid-dev"
+  librust-uuid-dev patch"
 
 stop() {
   echo "$(basename "$0"): $*" >&2

@@ -3,7 +3,8 @@ use crate::hulmbax::{self, Buffers};
 use crate::lean::{read_schema, read_value, write_value};
 use crate::rows::Row;
 use apache_avro::{Schema, schema::Name};
-use oracle::answer::{self, Answer, number};
+use oracle::answer::{self, Answer};
+use oracle::plain::{self, number};
 use std::collections::HashMap;
 use std::hint::black_box;
 use std::time::Instant;
@@ -52,7 +53,7 @@ impl<'a> Sides<'a> {
     /// Whether the crate as timed, the crate as the comparison asks it, and each archive give the
     /// same bytes or number for each value.
     fn alike(&mut self) -> bool {
-        let wanted = answer::of_case(&(self.row.schema.clone(), self.row.values.clone()));
+        let wanted = plain::of_case(&(self.row.schema.clone(), self.row.values.clone()));
         let mut alike = true;
         for (value, wanted) in self.row.values.iter().zip(wanted) {
             let lean = crate_call(&self.schema, &self.names, value, &mut self.out).map(|()| self.out.clone());

@@ -1,4 +1,4 @@
-/* An entry with one fault (-DFAULT=1 to 12) around the true one, to see that the comparison and valgrind find it. */
+/* An entry with one fault (-DFAULT=1 to 13) around the true one, to see that the comparison and valgrind find it. */
 #include <stddef.h>
 #include <stdint.h>
 #include <string.h>
@@ -58,6 +58,13 @@ int32_t hulmbax_resolve(const uint8_t *schema, size_t schema_len, const uint8_t 
 #elif FAULT == 12 /* the number of a map's second failing entry */
     if (n < -5 && n > -18 && schema[0] == 0x09 && record[0] == 0x09)
         return without_first(n, schema, schema_len, record, record_len, workspace, workspace_len);
+#elif FAULT == 13 /* the crate's own rule: a String of another size becomes a Fixed of its length */
+    if (n == -10 && schema[0] == 0x0d && record[0] == 0x07) {
+        if (record_len > result_len) return -18;
+        memcpy(result, record, record_len);
+        result[0] = 0x0d;
+        return record_len;
+    }
 #endif
     return n;
 }

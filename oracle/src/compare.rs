@@ -1,8 +1,10 @@
-//! Program `resolve` beside the crate, case by case.
-use crate::answer::{self, Answer};
+//! Program `resolve` beside both judges, case by case.
+use crate::answer::Answer;
 use crate::frame::{self, Schema, Value};
 use crate::generate::{Given, cases};
+use crate::judges::{self, Differ, Judged, Tally};
 use crate::meet::meet;
+use crate::requests::REQUESTS;
 use std::collections::BTreeMap;
 use std::fs::{self, File};
 use std::path::Path;
@@ -33,21 +35,19 @@ pub fn run(program: &Path, input: &[u8], dir: &Path) -> Vec<String> {
 pub fn compare(n: usize, seed: u64, program: &Path, dir: &Path) -> bool {
     fs::create_dir_all(dir).unwrap();
     let mut counts = Counts::default();
-    let mut differ = 0;
+    let mut differ = Differ::default();
     for case in given(n, seed) {
-        let want = answer::of_input(&case.input);
+        let judged = judges::of_input(&case.input);
         let got = run(program, &case.input, dir);
-        counts.add(&case, &want);
-        let wrong = differences(&want, &got);
-        for i in &wrong {
-            differ += 1;
-            if differ <= SHOWN {
-                let file = dir.join(format!("difference-{differ}.txt"));
+        counts.add(&case, &judged);
+        for i in 0..judged.len().max(got.len()) {
+            let Some((judge, want)) = difference(judged.get(i), got.get(i)) else { continue };
+            if differ.add(judge) <= SHOWN {
+                let file = dir.join(format!("difference-{}.txt", differ.all()));
                 fs::write(&file, &case.input).unwrap();
-                let want = want.get(*i).map_or("no line".into(), Answer::line);
-                let got = got.get(*i).map_or("no line", String::as_str);
+                let got = got.get(i).map_or("no line", String::as_str);
                 println!(
-                    "{} (family {}), value {}: {want}, the program: {got}",
+                    "{} (family {}), value {}: {judge}: {want}, the program: {got}",
                     file.display(),
                     case.family,
                     i + 1
@@ -56,14 +56,16 @@ pub fn compare(n: usize, seed: u64, program: &Path, dir: &Path) -> bool {
         }
     }
     counts.print();
-    println!("program: {} values, {differ} differ", counts.values);
-    differ == 0
+    println!("program: {} values, {differ}", counts.values);
+    differ.all() == 0
 }
 
-/// The places at which the lines are not the answers.
-pub fn differences(want: &[Answer], got: &[String]) -> Vec<usize> {
-    let right = |i: &usize| want.get(*i).zip(got.get(*i)).is_some_and(|(w, g)| w.line() == *g);
-    (0..want.len().max(got.len())).filter(|i| !right(i)).collect()
+/// An answer that holds for a value and is not the program's line, and whose it is.
+fn difference(judged: Option<&Judged>, got: Option<&String>) -> Option<(&'static str, String)> {
+    let Some(judged) = judged else { return Some(("both crates", "no line".into())) };
+    let wrong = |(_, want): &(&str, &Answer)| got != Some(&want.line());
+    let (judge, want) = judged.wanted().into_iter().find(wrong)?;
+    Some((judge, want.line()))
 }
 
 /// What the cases of a run had in them.
@@ -76,17 +78,26 @@ pub struct Counts {
     families: BTreeMap<&'static str, usize>,
     met: BTreeMap<u8, usize>,
     results: BTreeMap<u8, usize>,
+    tally: Tally,
+    /// The answers in the families that are made for requests.
+    requested: BTreeMap<(&'static str, String), usize>,
 }
 
 impl Counts {
-    fn add(&mut self, case: &Given, want: &[Answer]) {
+    fn add(&mut self, case: &Given, judged: &[Judged]) {
         let lines = frame::lines(&case.input);
         let schema = frame::unhex(lines[0]).and_then(|b| frame::read_schema(&b).ok());
         let schema = schema.filter(frame::schema_ok);
-        *self.families.entry(case.family).or_default() += want.len();
-        self.values += want.len();
-        for (a, line) in want.iter().zip(&lines[1..]) {
+        let requested = REQUESTS.iter().any(|r| r.family == case.family);
+        *self.families.entry(case.family).or_default() += judged.len();
+        self.values += judged.len();
+        for (j, line) in judged.iter().zip(&lines[1..]) {
+            let a = &j.patched;
+            self.tally.add(j);
             *self.answers.entry(a.sort()).or_default() += 1;
+            if requested {
+                *self.requested.entry((case.family, a.sort())).or_default() += 1;
+            }
             self.several += usize::from(a.several());
             self.crate_differs += usize::from(a.crate_differs());
             if let Some(s) = &schema {
@@ -106,17 +117,23 @@ impl Counts {
 
     fn print(&self) {
         println!("answers:");
-        for k in ["+".to_string()].into_iter().chain((2..=18).map(|n| n.to_string())) {
+        for k in sorts() {
             println!("  {k:>7} {:9}", self.answers.get(&k).unwrap_or(&0));
         }
+        self.tally.print();
         println!("maps whose failing entries have several numbers: {}", self.several);
         println!(
-            "  the crate's is not that of the first in key order, and is admitted: {}",
+            "  the patched crate's is not that of the first in key order, and is admitted: {}",
             self.crate_differs
         );
         println!("families:");
         for (k, n) in &self.families {
             println!("  {k:12} {n:9}");
+        }
+        for r in REQUESTS {
+            let one = |k: String| Some(format!("{k}: {}", self.requested.get(&(r.family, k.clone()))?));
+            let answers: Vec<String> = sorts().filter_map(one).collect();
+            println!("answers in family {}, made for {}: {}", r.family, r.name, answers.join(", "));
         }
         println!("kind, schema nodes of it that a value met, nodes of it in accepted results:");
         for k in 0..=0x19u8 {
@@ -127,6 +144,11 @@ impl Counts {
             );
         }
     }
+}
+
+/// Every sort of answer: accepted, and the numbers of program `resolve`.
+fn sorts() -> impl Iterator<Item = String> {
+    ["+".to_string()].into_iter().chain((2..=18).map(|n| n.to_string()))
 }
 
 /// Counts the nodes of a value by their kind.

@@ -1,14 +1,15 @@
 //! Demand 3 on the running program: alike pairs get equal answers, and accepted results fit and
-//! repeat. The crate is run beside it.
-use crate::answer;
-use crate::compare::{differences, run};
+//! repeat. The patched crate is run beside it.
+use crate::answer::Answer;
+use crate::compare::run;
 use crate::frame::{self, Schema, Value, hex, schema_frame, value_frame};
 use crate::generate::{Alike, Case, alike_cases, input};
-use crate::meet::{fits, string_meets_fixed_or_decimal, trimmed};
+use crate::meet::{fits, trimmed};
+use crate::patched;
 use std::fs;
 use std::path::Path;
 
-/// After this many lines that differ from the crate's the run ends.
+/// After this many lines that differ from the patched crate's the run ends.
 const TOO_MANY: usize = 100;
 
 /// The program, and what was counted.
@@ -19,40 +20,24 @@ struct Run<'a> {
     /// Pairs of which 5 stops one, or whose schema is refused.
     left_out: usize,
     unequal: usize,
-    /// Results of values in which no String meets a Fixed or Decimal.
-    plain: Results,
-    /// The other results.
-    with_strings: Results,
-    /// Lines that are not the crate's.
-    differ: usize,
-}
-
-#[derive(Default)]
-struct Results {
-    all: usize,
+    results: usize,
     unfit: usize,
     changed: usize,
+    /// Lines that are not the patched crate's.
+    differ: usize,
 }
 
 /// Runs until there are `n` pairs and `n` repeats.
 pub fn demand3(n: usize, seed: u64, program: &Path, dir: &Path) -> bool {
     fs::create_dir_all(dir).unwrap();
-    let mut run = Run {
-        program,
-        dir,
-        pairs: 0,
-        left_out: 0,
-        unequal: 0,
-        plain: Results::default(),
-        with_strings: Results::default(),
-        differ: 0,
-    };
+    let mut run =
+        Run { program, dir, pairs: 0, left_out: 0, unequal: 0, results: 0, unfit: 0, changed: 0, differ: 0 };
     let mut cases = alike_cases(seed);
-    while (run.pairs < n || run.plain.all < n) && run.differ < TOO_MANY {
+    while (run.pairs < n || run.results < n) && run.differ < TOO_MANY {
         run.case(&cases.next().unwrap());
     }
     run.print();
-    run.unequal + run.plain.unfit + run.plain.changed + run.differ == 0
+    run.unequal + run.unfit + run.changed + run.differ == 0
 }
 
 impl Run<'_> {
@@ -64,12 +49,9 @@ impl Run<'_> {
             assert!(trimmed(a, &case.schema) == trimmed(b, &case.schema), "the generator's pairs are alike");
             self.pair(&schema, &lines[0], &lines[1]);
         }
-        let accepted = |(v, line): (&&Value, &String)| {
-            let result = frame::unhex(line.strip_prefix("+ ")?.as_bytes())?;
-            Some((result, string_meets_fixed_or_decimal(v, &case.schema)))
-        };
-        let (results, strings): (Vec<_>, Vec<_>) = values.iter().zip(&lines).filter_map(accepted).unzip();
-        self.repeat(&case.schema, (schema, results), &strings);
+        let accepted = |line: &String| frame::unhex(line.strip_prefix("+ ")?.as_bytes());
+        let results = lines.iter().filter_map(accepted).collect();
+        self.repeat(&case.schema, (schema, results));
     }
 
     /// The lines that two alike values got.
@@ -85,44 +67,44 @@ impl Run<'_> {
         }
     }
 
-    /// Gives results back as records; `strings` says for which a String met a Fixed or Decimal.
-    fn repeat(&mut self, tree: &Schema, case: Case, strings: &[bool]) {
+    /// Gives results back as records.
+    fn repeat(&mut self, tree: &Schema, case: Case) {
         let lines = self.lines(&case);
-        for ((result, line), string) in case.1.iter().zip(&lines).zip(strings) {
+        for (result, line) in case.1.iter().zip(&lines) {
             let unfit = !frame::read_value(result).is_ok_and(|v| fits(&v, tree));
             let changed = *line != format!("+ {}", hex(result));
-            if !string && (unfit || changed) {
+            if unfit || changed {
                 println!("schema {}: result {} repeats to {line}", hex(&case.0), hex(result));
             }
-            let counts = if *string { &mut self.with_strings } else { &mut self.plain };
-            counts.all += 1;
-            counts.unfit += unfit as usize;
-            counts.changed += changed as usize;
+            self.results += 1;
+            self.unfit += unfit as usize;
+            self.changed += changed as usize;
         }
     }
 
-    /// The program's lines; counts the ones that are not the crate's.
+    /// The program's lines; counts the ones that are not the patched crate's.
     fn lines(&mut self, case: &Case) -> Vec<String> {
         let got = run(self.program, &input(case), self.dir);
-        let wrong = differences(&answer::of_case(case), &got);
+        let wrong = differences(&patched::of_case(case), &got);
         if let Some(i) = wrong.first() {
-            println!("schema {}, value {}: the program differs from the crate", hex(&case.0), i + 1);
+            println!("schema {}, value {}: the program differs from the patched crate", hex(&case.0), i + 1);
         }
         self.differ += wrong.len();
         got
     }
 
     fn print(&self) {
-        let Run { plain, with_strings, .. } = self;
         println!(
             "{} alike pairs: {} unequal ({} more left out: 2 to 5)",
             self.pairs, self.unequal, self.left_out
         );
-        println!("{} results: {} don't fit, {} repeats change", plain.all, plain.unfit, plain.changed);
-        println!(
-            "{} results where a String meets a Fixed or Decimal: {} don't fit, {} repeats change",
-            with_strings.all, with_strings.unfit, with_strings.changed
-        );
-        println!("lines that differ from the crate's: {}", self.differ);
+        println!("{} results: {} don't fit, {} repeats change", self.results, self.unfit, self.changed);
+        println!("lines that differ from the patched crate's: {}", self.differ);
     }
+}
+
+/// The places at which the lines are not the answers.
+fn differences(want: &[Answer], got: &[String]) -> Vec<usize> {
+    let right = |i: &usize| want.get(*i).zip(got.get(*i)).is_some_and(|(w, g)| w.line() == *g);
+    (0..want.len().max(got.len())).filter(|i| !right(i)).collect()
 }

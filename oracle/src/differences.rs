@@ -1,59 +1,126 @@
-//! The rows of docs/DIFFERENCES.md on the crate, and beside the list that program `vectors` replays.
-use crate::answer;
+//! The rows of docs/DIFFERENCES.md on both crates, and beside the list that program `vectors` replays.
+use crate::judges::{self, Judged};
 use std::fs;
 use std::path::Path;
 
 /// The line of the list that stands before the rows.
 const SECTION: &str = "# docs/DIFFERENCES.md, row by row";
+/// How a line begins that says which request touches the next value; it may be left out.
+const MARK: &str = "# Q-";
+/// The last cells of a table's head: one answer of both crates, or one of each.
+const ONE: &[&str] = &["Schema", "Value", "Result"];
+const TWO: &[&str] = &["Schema", "Value", "The crate", "Hulmbax"];
 
-/// A row's frames in hexadecimal, and its answer as program `resolve` writes it.
+/// A row's frames in hexadecimal, and its answers as program `resolve` writes them.
 struct Row {
     schema: String,
     value: String,
-    answer: String,
+    by_crate: String,
+    by_hulmbax: String,
+    /// Whether the table says that the two differ.
+    two: bool,
 }
 
-/// Whether the crate gives each row's answer, and the list has the rows in their order.
+/// Whether the crates give each row's answers, and the list has the rows in their order.
 pub fn differences(document: &Path, list: &Path) -> bool {
-    let rows = rows(&fs::read_to_string(document).unwrap());
-    let mut wrong = 0;
-    for row in &rows {
-        let given = answer::of_input(format!("{}\n{}\n", row.schema, row.value).as_bytes());
-        let line = given[0].line();
-        if line != row.answer {
-            wrong += 1;
-            println!("{} with {}: {} in the table, {line} from the crate", row.schema, row.value, row.answer);
-        }
-    }
-    let wanted: String =
-        rows.iter().map(|r| format!("s {}\nv {}\n{}\n", r.schema, r.value, r.answer)).collect();
-    let listed = section(&fs::read_to_string(list).unwrap()) == wanted;
-    println!("differences: {} rows, {wrong} of which the crate answers otherwise", rows.len());
-    if !listed {
+    let (rows, unread) = rows(&fs::read_to_string(document).unwrap());
+    unread.iter().for_each(|line| println!("not a row as its table's head says: {line}"));
+    let judged: Vec<Judged> = rows.iter().map(judged).collect();
+    let wrong: Vec<String> = rows.iter().zip(&judged).flat_map(|(r, j)| faults(r, j)).collect();
+    wrong.iter().for_each(|fault| println!("{fault}"));
+    let wanted: String = rows.iter().zip(&judged).map(|(r, j)| listed(r, j)).collect();
+    let same = section(&fs::read_to_string(list).unwrap()) == unmarked(&wanted);
+    let two = rows.iter().filter(|r| r.two).count();
+    println!(
+        "differences: {} rows, {two} of them between Hulmbax and the crate; {} answers are others",
+        rows.len(),
+        wrong.len()
+    );
+    if !same {
         println!("{} has other rows; below its line {SECTION:?} should stand:\n{wanted}", list.display());
     }
-    wrong == 0 && listed && !rows.is_empty()
+    wrong.is_empty() && unread.is_empty() && same && !rows.is_empty()
 }
 
-/// The lines behind the section's first, up to the next comment.
+fn judged(row: &Row) -> Judged {
+    judges::of_input(format!("{}\n{}\n", row.schema, row.value).as_bytes()).remove(0)
+}
+
+/// A row as the list has it, with the requests that touch it.
+fn listed(row: &Row, judged: &Judged) -> String {
+    let mark = match judged.touched.as_slice() {
+        [] => String::new(),
+        touched => format!("# {}\n", touched.join(", ")),
+    };
+    format!("s {}\n{mark}v {}\n{}\n", row.schema, row.value, row.by_hulmbax)
+}
+
+/// What is wrong with a row: the answers that a crate doesn't give, or two that don't differ.
+fn faults(row: &Row, judged: &Judged) -> Vec<String> {
+    let given = [
+        (&row.by_crate, &judged.plain, "the crate as it is"),
+        (&row.by_hulmbax, &judged.patched, "the patched crate"),
+    ];
+    let mut faults = vec![];
+    for (answer, given, judge) in given {
+        let line = given.line();
+        if line != *answer {
+            faults.push(format!(
+                "{} with {}: {answer} in the table, {line} from {judge}",
+                row.schema, row.value
+            ));
+        }
+    }
+    if row.two && row.by_crate == row.by_hulmbax {
+        faults.push(format!("{} with {}: the two answers are equal", row.schema, row.value));
+    }
+    faults
+}
+
+/// The lines behind the section's first, up to the next comment that is no mark; without the marks.
 fn section(list: &str) -> String {
     let behind = list.lines().skip_while(|l| !l.starts_with(SECTION)).skip(1);
-    behind.take_while(|l| !l.starts_with('#')).map(|l| format!("{l}\n")).collect()
+    let lines = behind.take_while(|l| !l.starts_with('#') || l.starts_with(MARK));
+    unmarked(&lines.map(|l| format!("{l}\n")).collect::<String>())
 }
 
-/// Each table row whose last three cells are a schema, a value and a result.
-fn rows(document: &str) -> Vec<Row> {
-    let table = document.lines().filter(|l| l.starts_with("| "));
-    table.filter_map(|line| row(&line.split('|').map(str::trim).collect::<Vec<_>>())).collect()
+fn unmarked(lines: &str) -> String {
+    lines.lines().filter(|l| !l.starts_with(MARK)).map(|l| format!("{l}\n")).collect()
 }
 
-fn row(cells: &[&str]) -> Option<Row> {
-    let [.., schema, value, result, ""] = cells else { return None };
-    let answer = match frame(result) {
-        Some(hex) => format!("+ {hex}"),
-        None => format!("- {}", result.parse::<u8>().ok()?),
-    };
-    Some(Row { schema: frame(schema)?, value: frame(value)?, answer })
+/// The rows of the tables whose head ends in `ONE` or `TWO`, and the lines of them that can't be read.
+fn rows(document: &str) -> (Vec<Row>, Vec<String>) {
+    let (mut rows, mut unread) = (vec![], vec![]);
+    let mut head: Option<&[&str]> = None;
+    for line in document.lines() {
+        let cells: Vec<&str> = line.trim_matches('|').split('|').map(str::trim).collect();
+        if !line.starts_with('|') {
+            head = None;
+        } else if let Some(ends) = [ONE, TWO].into_iter().find(|ends| cells.ends_with(ends)) {
+            head = Some(ends);
+        } else if let Some(ends) = head.filter(|_| line.starts_with("| ")) {
+            match row(&cells, ends == TWO) {
+                Some(row) => rows.push(row),
+                None => unread.push(line.to_string()),
+            }
+        }
+    }
+    (rows, unread)
+}
+
+fn row(cells: &[&str], two: bool) -> Option<Row> {
+    let (frames, results) = cells.split_at(cells.len().checked_sub(if two { 2 } else { 1 })?);
+    let [.., schema, value] = frames else { return None };
+    let (by_crate, by_hulmbax) = (answer(results.first()?)?, answer(results.last()?)?);
+    Some(Row { schema: frame(schema)?, value: frame(value)?, by_crate, by_hulmbax, two })
+}
+
+/// A result or a number, as a line of program `resolve`.
+fn answer(cell: &str) -> Option<String> {
+    match frame(cell) {
+        Some(hex) => Some(format!("+ {hex}")),
+        None => Some(format!("- {}", cell.parse::<u8>().ok()?)),
+    }
 }
 
 /// Digits in backticks; `00×12` stands for as many repeats.

@@ -1,9 +1,10 @@
-//! Recorded lists for the repository's own programs: frames with the answers of the crate, frames
-//! with the outcome of the frame checks alone, and one input of program `resolve`.
-use crate::answer::{self, Answer};
+//! Recorded lists for the repository's own programs: frames with the answers of the patched crate,
+//! frames with the outcome of the frame checks alone, and one input of program `resolve`.
+use crate::answer::Answer;
 use crate::compare::count_kinds;
 use crate::frame::{self, BOOLEAN, BYTES, DOUBLE, FLOAT, Field, INT, LONG, NULL, STRING, Schema, Value, hex};
-use crate::generate::{self, Case, FAMILIES, Family, GRID, How, PLAIN, Rng, built};
+use crate::generate::{self, Case, FAMILIES, Family, GRID, How, PLAIN, Rng, SIZES, built};
+use crate::{judges, patched, plain};
 use std::collections::{BTreeMap, BTreeSet};
 use std::fmt::Write;
 use std::fs;
@@ -40,21 +41,30 @@ fn count(counts: &mut Counts, key: &str) {
 
 // ---------------------------------------------------------------- pairs and answers
 
-/// A schema's group: its line, then two lines for each value; and the answers in it. Leaves out
-/// what is longer than `most`, and where a map's failing entries have several numbers, since the
-/// crate may then give another one in another run.
+/// A schema's group: its line, then two lines for each value, before them the requests that touch it;
+/// and the answers in it. Leaves out what is longer than `most`, and where a map's failing entries
+/// have several numbers, since the crate may then give another one in another run.
 fn group((schema, values): &Case, most: usize) -> (String, Vec<String>) {
-    let mut text = format!("s {}\n", hex(schema));
+    let mut text = format!("{}\n", line('s', schema));
     let mut kept = vec![];
     let case: Case = (schema.clone(), values.iter().filter(|v| v.len() <= most).cloned().collect());
-    for (v, a) in case.1.iter().zip(answer::of_case(&case)) {
-        let longer = matches!(&a, Answer::Accepted(b) if b.len() > most);
+    for (v, judged) in case.1.iter().zip(judges::of_case(&case)) {
+        let a = &judged.patched;
+        let longer = matches!(a, Answer::Accepted(b) if b.len() > most);
         if !longer && !a.several() {
-            writeln!(text, "v {}\n{}", hex(v), a.line()).unwrap();
+            if !judged.touched.is_empty() {
+                writeln!(text, "# {}", judged.touched.join(", ")).unwrap();
+            }
+            writeln!(text, "{}\n{}", line('v', v), a.line()).unwrap();
             kept.push(a.sort());
         }
     }
     (text, kept)
+}
+
+/// A frame's line; an empty frame leaves no space at its end.
+fn line(what: char, frame: &[u8]) -> String {
+    format!("{what} {}", hex(frame)).trim_end().into()
 }
 
 /// How many pairs of a family.
@@ -68,6 +78,11 @@ fn quota(family: &Family) -> usize {
     }
 }
 
+/// Whether 4 stops the schema, by either judge.
+fn stops_with_four(schema: &[u8]) -> bool {
+    [patched::prepare(Some(schema)).err(), plain::prepare(Some(schema)).err()].contains(&Some(4))
+}
+
 /// The list of pairs, and one of long frames, which is also where 18 stands.
 fn vectors(seed: u64) -> (String, String) {
     let (mut short, mut long) = (String::new(), String::new());
@@ -75,14 +90,16 @@ fn vectors(seed: u64) -> (String, String) {
     // the values of `trials` are all long
     for (i, family) in FAMILIES.iter().enumerate().filter(|(_, f)| f.name != "trials") {
         let mut r = rng(seed, i);
-        let (mut taken, mut lengthy, mut fours) = (0, 0, 0);
+        let (mut made, mut taken, mut lengthy, mut fours) = (0, 0, 0, 0);
         let of_length = matches!(family.name, "long" | "longdefault" | "wide");
         while taken < quota(family) && lengthy < 60 {
             let case = match family.name {
                 "grid" => generate::grid(&mut r, taken / 27 % GRID),
+                "sizes" => generate::sizes(&mut r, made % SIZES),
                 _ => (family.make)(&mut r),
             };
-            let four = fours < 6 && answer::prepare(Some(&case.0)).err() == Some(4);
+            made += 1;
+            let four = fours < 6 && stops_with_four(&case.0);
             fours += four as usize;
             let longest = case.1.iter().map(Vec::len).max().unwrap().max(case.0.len());
             if of_length && !four && longest > SHORT {
@@ -235,7 +252,7 @@ fn sure() -> Vec<(&'static str, Value)> {
     ]
 }
 
-/// One input of program `resolve`, and the crate's answers.
+/// One input of program `resolve`, and the patched crate's answers.
 fn program(seed: u64) -> (String, String) {
     let mut r = rng(seed, 900);
     let s = finish();
@@ -284,7 +301,7 @@ fn program(seed: u64) -> (String, String) {
     let mut output = String::new();
     let mut counts = Counts::new();
     let mut kinds = BTreeMap::new();
-    for a in answer::of_input(input.as_bytes()) {
+    for a in patched::of_input(input.as_bytes()) {
         if let Answer::Accepted(b) = &a {
             count_kinds(&frame::read_value(b).unwrap(), &mut kinds);
         }

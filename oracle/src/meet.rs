@@ -37,15 +37,6 @@ fn meet_default(d: &Value, s: &Schema, f: &mut dyn FnMut(&Value, &Schema)) {
     }
 }
 
-/// Whether a String meets a Fixed or a Decimal: such a result need not fit or repeat.
-pub fn string_meets_fixed_or_decimal(v: &Value, s: &Schema) -> bool {
-    let mut met = false;
-    meet(v, s, &mut |v, s| {
-        met |= matches!((v, s), (Value::Str(_), Schema::Fixed(_) | Schema::Decimal(..)));
-    });
-    met
-}
-
 /// "A result fits a schema when it matches it, with exactly the schema's field names in each
 /// Record; only a Decimal's length need not be the stated size."
 pub fn fits(v: &Value, s: &Schema) -> bool {

@@ -6,8 +6,8 @@ use apache_avro::schema::{
     ArraySchema, DecimalSchema, EnumSchema, FixedSchema, InnerDecimalSchema, MapSchema, Name, RecordField,
     RecordSchema, SchemaKind, UnionSchema, UuidSchema,
 };
-use oracle::convert::schema_kind;
 use oracle::frame::{MAX_DEPTH, MAX_FRAME};
+use oracle::plain::convert::schema_kind;
 use serde_json::{Map, Number, Value as Json};
 use std::collections::BTreeMap;
 

@@ -2,9 +2,10 @@
 //! what lies around them.
 use crate::buffers::{Buffer, Junk};
 use crate::entry::{WORKSPACE, hulmbax_resolve, right, with_lengths};
-use oracle::answer::{self, Answer};
+use oracle::answer::Answer;
 use oracle::frame::MAX_FRAME;
 use oracle::generate::{Rng, input};
+use oracle::judges::{self, Differ, Judged, Tally};
 use std::collections::BTreeMap;
 use std::fs;
 use std::path::Path;
@@ -26,24 +27,24 @@ struct Tester {
 pub fn compare(n: usize, seed: u64, dir: &Path) -> bool {
     fs::create_dir_all(dir).unwrap();
     let mut tester = Tester::new(seed);
-    let (mut values, mut differ) = (0, 0);
+    let (mut values, mut differ, mut tally) = (0, Differ::default(), Tally::default());
     for given in oracle::compare::given(n, seed) {
         let (schema, frames) = &given.case;
-        for (frame, want) in frames.iter().zip(answer::of_case(&given.case)) {
+        for (frame, judged) in frames.iter().zip(judges::of_case(&given.case)) {
             values += 1;
-            if let Err(what) = tester.value(schema, frame, &want) {
-                differ += 1;
-                if differ <= SHOWN {
-                    let file = dir.join(format!("library-{differ}.txt"));
-                    fs::write(&file, input(&(schema.clone(), vec![frame.clone()]))).unwrap();
-                    println!("{} (family {}): {what}", file.display(), given.family);
-                }
+            tally.add(&judged);
+            let Err((judge, what)) = tester.judged(schema, frame, &judged) else { continue };
+            if differ.add(judge) <= SHOWN {
+                let file = dir.join(format!("library-{}.txt", differ.all()));
+                fs::write(&file, input(&(schema.clone(), vec![frame.clone()]))).unwrap();
+                println!("{} (family {}): {judge}: {what}", file.display(), given.family);
             }
         }
     }
     tester.print();
-    println!("library: {values} values, {differ} differ");
-    differ == 0
+    tally.print();
+    println!("library: {values} values, {differ}");
+    differ.all() == 0
 }
 
 impl Tester {
@@ -52,6 +53,17 @@ impl Tester {
         let junk = Junk::new(&mut r);
         let [schema, record, result, workspace] = [(); 4].map(|_| Buffer::new());
         Tester { r, junk, schema, record, result, workspace, calls: BTreeMap::new() }
+    }
+
+    /// One pair of frames beside each answer that holds for it; on a difference also whose it is.
+    fn judged(
+        &mut self,
+        schema: &[u8],
+        record: &[u8],
+        judged: &Judged,
+    ) -> Result<(), (&'static str, String)> {
+        let mut wanted = judged.wanted().into_iter();
+        wanted.try_for_each(|(judge, want)| self.value(schema, record, want).map_err(|what| (judge, what)))
     }
 
     /// One pair of frames with every length of result buffer and workspace.

@@ -1,4 +1,4 @@
-//! Program `library`: the C entry of libhulmbax.a beside the crate. See README.md.
+//! Program `library`: the C entry of libhulmbax.a beside both crates. See README.md.
 mod buffers;
 mod compare;
 mod deep;

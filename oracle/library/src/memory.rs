@@ -2,9 +2,10 @@
 //! length, and the result buffer is left as the allocator gives it. The workspace holds junk: the
 //! entry reads it to see what of it is not zero.
 use crate::entry::{WORKSPACE, hulmbax_resolve, right, with_lengths};
-use oracle::answer::{self, Answer};
+use oracle::answer::Answer;
 use oracle::frame::{MAX_FRAME, hex};
 use oracle::generate::{Rng, cases, damage};
+use oracle::patched;
 
 unsafe extern "C" {
     fn malloc(len: usize) -> *mut u8;
@@ -51,7 +52,7 @@ pub fn memory(n: usize, seed: u64) -> bool {
         let values: Vec<Vec<u8>> = values.into_iter().take(6).map(|v| damage(&mut r, v)).collect();
         damaged += values.len();
         let case = (schema, values);
-        for (value, want) in case.1.iter().zip(answer::of_case(&case)) {
+        for (value, want) in case.1.iter().zip(patched::of_case(&case)) {
             for result in lengths(&want) {
                 calls += 1;
                 if !call(&case.0, value, result, &with_lengths(&want, result, WORKSPACE)) {

@@ -8,6 +8,7 @@ mod random;
 mod resolution;
 mod scalars;
 mod schemas;
+mod sizes;
 mod values;
 
 pub use alike::{Alike, alike_cases};
@@ -15,6 +16,7 @@ pub use damage::damage;
 pub use random::Rng;
 pub use resolution::{GRID, grid};
 pub use schemas::{How, PLAIN, built, schema};
+pub use sizes::{SIZES, sizes};
 pub use values::{any, value};
 
 use crate::frame::{Schema, Value, hex, schema_frame, value_frame};
@@ -63,6 +65,7 @@ pub const FAMILIES: &[Family] = &[
     family("wide", 4, lengths::wide),
     family("flags", 4, frames::flags),
     family("trials", 3, lengths::trials),
+    family("sizes", 9, sizes::any_sizes),
 ];
 
 /// How many values most families make for a schema.

@@ -1,6 +1,5 @@
-//! From trees of the scope to those of the crate and back.
-use crate::frame::{Field, Schema, Union, Value};
-use apache_avro::{
+//! From trees of the scope to those of the crate and back. Compiled for either judge.
+use super::avro::{
     Decimal, Duration, Schema as AvroSchema, Uuid,
     error::Details,
     schema::{
@@ -9,6 +8,7 @@ use apache_avro::{
     },
     types::Value as AvroValue,
 };
+use crate::frame::{Field, Schema, Union, Value};
 use serde_json::Value as Json;
 use std::collections::BTreeMap;
 
@@ -154,7 +154,7 @@ pub fn to_schema(s: &Schema, names: &mut Namer) -> AvroSchema {
 }
 
 /// A default, as the JSON that the crate keeps.
-fn to_json(v: &Value) -> Json {
+pub fn to_json(v: &Value) -> Json {
     match v {
         Value::Null => Json::Null,
         Value::Bool(b) => Json::Bool(*b),

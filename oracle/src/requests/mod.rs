@@ -1,0 +1,105 @@
+//! The requests that change an answer of the crate, and which inputs each of them touches: for all
+//! others the crate as it is remains the judge.
+mod q06;
+
+use crate::frame::{self, NULL, Schema, Value};
+use crate::plain;
+
+/// A request: its rule is a patch of the crate, its filter says which pairs the rule is about.
+pub struct Request {
+    pub name: &'static str,
+    /// The file in folder patches.
+    pub patch: &'static str,
+    /// The generator's family that is made for it.
+    pub family: &'static str,
+    /// Whether nodes that meet may get another answer than the crate's.
+    touches: fn(&Met) -> bool,
+}
+
+pub const REQUESTS: &[Request] =
+    &[Request { name: "Q-6", patch: "Q-06.patch", family: "sizes", touches: q06::touches }];
+
+/// A value node, once peeled, and the schema node that it meets.
+pub struct Met<'a> {
+    pub value: &'a Value,
+    pub schema: &'a Schema,
+    /// Whether the value stems from a default.
+    pub from_default: bool,
+}
+
+/// A schema, and the requests that touch each value under it.
+pub struct Filter {
+    schema: Option<Schema>,
+    always: Vec<bool>,
+}
+
+impl Filter {
+    /// A schema that 2 or 3 stops is touched by none.
+    pub fn new(schema: Option<&[u8]>) -> Self {
+        let schema = schema.and_then(|b| frame::read_schema(b).ok()).filter(frame::schema_ok);
+        let always = |r: &Request| schema.as_ref().is_some_and(|s| in_defaults(s, r));
+        Filter { always: REQUESTS.iter().map(always).collect(), schema }
+    }
+
+    /// The names of the requests that touch a value frame.
+    pub fn touching(&self, value: Option<&[u8]>) -> Vec<&'static str> {
+        let Some(schema) = &self.schema else { return vec![] };
+        let value = value.and_then(|b| frame::read_value(b).ok());
+        let touches = |(r, always): &(&Request, &bool)| {
+            **always || value.as_ref().is_some_and(|v| in_value(v, schema, false, r))
+        };
+        REQUESTS.iter().zip(&self.always).filter(touches).map(|(r, _)| r.name).collect()
+    }
+}
+
+/// Number 4 resolves the default of each union field against the first variant, whether a value
+/// needs it or not; so one that is touched there touches every value, even one that 5 stops.
+fn in_defaults(s: &Schema, r: &Request) -> bool {
+    match s {
+        Schema::Array(s) | Schema::Map(s) => in_defaults(s, r),
+        Schema::Union(u) => u.variants.iter().any(|s| in_defaults(s, r)),
+        Schema::Record(fields) => fields.iter().any(|f| {
+            let measured = match (&f.default, &f.schema) {
+                (Some(d), Schema::Union(u)) if u.variants[0] != NULL => in_value(d, &u.variants[0], true, r),
+                _ => false,
+            };
+            measured || in_defaults(&f.schema, r)
+        }),
+        _ => false,
+    }
+}
+
+/// Whether the request is about a pair that meets in this one. A union's every variant is met: a
+/// trial counts as much as the variant that is taken.
+fn in_value(v: &Value, s: &Schema, from_default: bool, r: &Request) -> bool {
+    let v = match v {
+        Value::Union(_, v) => v,
+        v => v,
+    };
+    let inner = |v: &Value, s: &Schema| in_value(v, s, from_default, r);
+    let below = match (v, s) {
+        (v, Schema::Union(u)) => u.variants.iter().any(|s| inner(v, s)),
+        (Value::Array(items), Schema::Array(s)) => items.iter().any(|v| inner(v, s)),
+        (Value::Map(items), Schema::Map(s)) => items.iter().any(|(_, v)| inner(v, s)),
+        (Value::Record(items) | Value::Map(items), Schema::Record(fields)) => {
+            fields.iter().any(|f| match (items.iter().rev().find(|(n, _)| *n == f.name), &f.default) {
+                (Some((_, v)), _) => inner(v, &f.schema),
+                (None, Some(d)) => in_default(d, &f.schema, r),
+                (None, None) => false,
+            })
+        }
+        _ => false,
+    };
+    below || (r.touches)(&Met { value: v, schema: s, from_default })
+}
+
+/// A default that is needed. In a union field it meets the first variant, and what that one makes of
+/// it meets the whole union anew. The crate as it is makes it: where the request is about the first
+/// step, the answer is touched anyhow.
+fn in_default(d: &Value, s: &Schema, r: &Request) -> bool {
+    let Schema::Union(u) = s else { return in_value(d, s, true, r) };
+    let first = &u.variants[0];
+    let made = if *first == NULL { Some(Value::Null) } else { plain::made(d, first) };
+    (*first != NULL && in_value(d, first, true, r))
+        || made.is_some_and(|v| in_value(&Value::union(0, v), s, true, r))
+}
