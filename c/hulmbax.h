@@ -83,11 +83,11 @@ enum hulmbax_refusal {
     HULMBAX_LONG_OUTSIDE_INT = 7,         /* a Long is outside Int */
     HULMBAX_ITEM_OUTSIDE_BYTE = 8,        /* an item meant as a byte is outside 0 to 255 */
     HULMBAX_NOT_UTF8 = 9,                 /* Bytes or Fixed meant as String are not UTF-8 */
-    HULMBAX_SIZE_DIFFERS = 10,            /* a Fixed, Duration or fixed UUID size differs */
+    HULMBAX_SIZE_DIFFERS = 10,            /* a Fixed, Duration or fixed UUID size differs, a text's in bytes */
     HULMBAX_UUID_WRONG = 11,              /* UUID text, or the length of UUID bytes, is wrong */
     HULMBAX_SCALE_EXCEEDS_PRECISION = 12, /* a decimal's scale exceeds its precision */
     HULMBAX_FIXED_TOO_SMALL = 13,         /* a decimal's fixed size is too small for the precision */
-    HULMBAX_BYTES_TOO_FEW = 14,           /* the value's bytes are too few for the precision */
+    HULMBAX_BYTES_TOO_FEW = 14,           /* the value's bytes, or a text's code points, are too few for the precision */
     HULMBAX_SYMBOL_UNKNOWN = 15,          /* a symbol is unknown and no default is among the symbols */
     HULMBAX_NO_VARIANT = 16,              /* no variant of a union accepts */
     HULMBAX_FIELD_MISSING = 17,           /* a field is missing without default */
@@ -123,7 +123,7 @@ static inline const char *hulmbax_refusal_text(int32_t refusal)
     case HULMBAX_NOT_UTF8:
         return "bytes stand where the schema asks for a string, and they are not UTF-8";
     case HULMBAX_SIZE_DIFFERS:
-        return "the bytes of a fixed, a duration or a fixed UUID are more or fewer than the schema asks for";
+        return "the bytes or the text meant for a fixed, a duration or a fixed UUID are more or fewer than the schema asks for";
     case HULMBAX_UUID_WRONG:
         return "a text or bytes stand where the schema asks for a UUID, and they are none";
     case HULMBAX_SCALE_EXCEEDS_PRECISION:
@@ -131,7 +131,7 @@ static inline const char *hulmbax_refusal_text(int32_t refusal)
     case HULMBAX_FIXED_TOO_SMALL:
         return "a decimal of the schema has a fixed size too small for its precision";
     case HULMBAX_BYTES_TOO_FEW:
-        return "a decimal in the record has too few bytes for the precision that the schema asks for";
+        return "the bytes or the text meant for a decimal are too few for the precision that the schema asks for";
     case HULMBAX_SYMBOL_UNKNOWN:
         return "an enum in the record has a symbol that the schema doesn't have, and the schema has no default symbol";
     case HULMBAX_NO_VARIANT:

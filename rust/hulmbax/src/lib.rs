@@ -1,5 +1,6 @@
 //! Brings an Avro record to one reader schema, as apache-avro 0.22.0 does
-//! (`Value::resolve_with_names` with no names), by a library that is proved to do so.
+//! (`Value::resolve_with_names` with no names) but for what docs/DIFFERENCES.md lists, by a library
+//! that is proved to do so.
 //!
 //! A [`Reader`] holds the schema, and brings one [`Value`] after another to it:
 //!

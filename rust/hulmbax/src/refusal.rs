@@ -85,8 +85,8 @@ refusals! {
     /// 9: Bytes or a Fixed meant as a String are not UTF-8.
     NotUtf8 = 9, Content, "bytes stand where the schema asks for a string, and they are not UTF-8";
 
-    /// 10: the size of a Fixed, a Duration or a fixed UUID differs.
-    SizeDiffers = 10, Content, "the bytes of a fixed, a duration or a fixed UUID are more or fewer than the schema asks for";
+    /// 10: the size of a Fixed, a Duration or a fixed UUID differs; a text's size is its bytes.
+    SizeDiffers = 10, Content, "the bytes or the text meant for a fixed, a duration or a fixed UUID are more or fewer than the schema asks for";
 
     /// 11: UUID text, or the length of UUID bytes, is wrong.
     UuidWrong = 11, Content, "a text or bytes stand where the schema asks for a UUID, and they are none";
@@ -97,8 +97,8 @@ refusals! {
     /// 13: a decimal's fixed size is too small for its precision.
     FixedTooSmall = 13, Content, "a decimal of the schema has a fixed size too small for its precision";
 
-    /// 14: the value's bytes are too few for the decimal's precision.
-    BytesTooFew = 14, Content, "a decimal in the record has too few bytes for the precision that the schema asks for";
+    /// 14: the value's bytes, or a text's code points, are too few for the decimal's precision.
+    BytesTooFew = 14, Content, "the bytes or the text meant for a decimal are too few for the precision that the schema asks for";
 
     /// 15: a symbol is unknown and no default is among the symbols.
     SymbolUnknown = 15, Content, "an enum in the record has a symbol that the schema doesn't have, and the schema has no default symbol";

@@ -91,8 +91,9 @@ fn refusal_9_not_utf8() {
 #[test]
 fn refusal_10_size_differs() {
     let fixed = Schema::Fixed(fixed(4));
-    let sent = Value::Fixed(2, vec![1, 2]);
-    assert_eq!(refused(&fixed, sent), Refusal::SizeDiffers);
+    for sent in [Value::Fixed(2, vec![1, 2]), "K 7".into(), "K 177".into()] {
+        assert_eq!(refused(&fixed, sent), Refusal::SizeDiffers);
+    }
 }
 
 #[test]
@@ -119,8 +120,9 @@ fn refusal_13_fixed_too_small() {
 #[test]
 fn refusal_14_bytes_too_few() {
     let schema = decimal(3, 0, InnerDecimalSchema::Bytes);
-    let sent = Value::Decimal(vec![1]);
-    assert_eq!(refused(&schema, sent), Refusal::BytesTooFew);
+    for sent in [Value::Decimal(vec![1]), "1".into()] {
+        assert_eq!(refused(&schema, sent), Refusal::BytesTooFew);
+    }
 }
 
 #[test]

@@ -1,4 +1,4 @@
-// The recorded answers of apache-avro, from Rust: each frame is read and written again, and each
+// The recorded answers of apache-avro with the rules of the requests put in, from Rust: each frame is read and written again, and each
 // record is resolved.
 use crate::common::{bytes, line, resolved};
 use hulmbax::{Reader, Schema, Value};
