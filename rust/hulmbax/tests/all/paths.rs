@@ -1,5 +1,5 @@
 // Where a refused record is said to be wrong.
-use crate::common::{decimal, nullable, record, symbols};
+use crate::common::{decimal, fixed, nullable, record, symbols};
 use hulmbax::path::Step;
 use hulmbax::schema::{InnerDecimalSchema, UnionSchema, UuidSchema};
 use hulmbax::{Error, Reader, RecordField, Refusal, Schema, Value};
@@ -237,6 +237,18 @@ fn a_union_of_null_and_another_has_that_one_s_refusal_as_its_cause() {
     );
     assert_eq!(place(&error), at("elapsed", Refusal::NoVariant));
     assert_eq!(place(error.root_cause()), at("elapsed", Refusal::Unsuited));
+}
+
+#[test]
+fn a_nullable_sail_number_of_the_wrong_length_says_so() {
+    let schema = record([("sail", nullable(Schema::Fixed(fixed(4))))]);
+    let finish = |sail: &str| Value::record([("sail", sail.into())]);
+    let error = error(&schema, &finish("K 7"));
+    assert_eq!(place(&error), at("sail", Refusal::NoVariant));
+    assert_eq!(place(error.root_cause()), at("sail", Refusal::SizeDiffers));
+    let taken = Reader::new(&schema).unwrap().resolve(&finish("K 17"));
+    let sail = Value::Union(1, Box::new(Value::Fixed(4, b"K 17".to_vec())));
+    assert_eq!(taken.unwrap().get("sail"), Some(&sail));
 }
 
 #[test]
