@@ -75,7 +75,7 @@ module _ (In Out : Schema → Value → Type 0) where
   Comes s = (v : Value) → In s v → Ends (Out s) (resolve s v)
 
   -- a default as it starts out
-  abbrev pub Starts : Schema → Type 0
+  abbrev Starts : Schema → Type 0
   Starts s = (d : Value) → In s d → Ends (λ w. Ends (Out s) (resolve s w)) (startDefault s d)
 
   -- the last value under a field's name, or where there is none its default

@@ -1,19 +1,17 @@
 -- A String against a Fixed and a Decimal gives exactly what Q-6 says, as a value and as a default.
-use Prim.Native.Nat.{ℕ, _≤_, _<_}
+use Prim.Native.Nat.{ℕ, _≤_}
 use mathlib.Core.Path.{_≡_, refl, sym, ap, _∙_, subst}
-use mathlib.Core.List.{List, [], _∷_, List·Memᴰ, List·Memᴰ·head, List·Memᴰ·tail, List·Memᴰ·not-nil, List·Memᴰ·cases-cons}
-use mathlib.Core.Logic.{_⊎_, inl, inr}
+use mathlib.Core.List.{List}
 use mathlib.Core.Option.{Option, none, some, Option·getD}
-use mathlib.Core.Bool.{Bool, true, false, _&&_}
+use mathlib.Core.Bool.{Bool, true, false}
 use native.Mathlib.Omega.{arith}
-use borrow.Author.Tests.{le-leb, eq-eqb}
-use lib.Dec.{T, leb, ltb, eqb, leb→le, ltb→lt, nltb→le, nleb→lt, eqb→eq, not-T}
+use borrow.Author.Tests.{eq-eqb}
+use lib.Dec.{ltb, eqb, ltb→lt, nltb→le, eqb→eq}
 use lib.ListN.{length}
-use lib.Ieee.Bits.{is-false}
-use lib.Ieee.Fits.{and-l, and-r}
 use Rattle.base.specs.Base.{ok, stop}
 use Rattle.text.specs.Text.{Text, ascii}
 use Rattle.utf8.specs.Utf8.{Start, isUtf8, pointsFrom, codePoints, allLatin1}
+use Rattle.utf8.proofs.ByteSized.{allLatin1→each, each→allLatin1, above→notLatin1, notLatin1→above}
 use Rattle.decimal.specs.Decimal.{tooShortFor}
 use Rattle.frame.specs.Kind
 use Rattle.frame.specs.Tree.{Value, Entries, Schema, noEntries, peel, schemaKind}
@@ -24,34 +22,6 @@ use Rattle.avro.specs.Strings.{Passes, StringGives, stated-size, another
 use Rattle.avro.proofs.Leaves.{scale-first, size-second}
 use Rattle.avro.proofs.WalkSentences.{Absent, fieldOutcome, default-taken}
 
--- ---- code points that fit a byte
-
-bytes-all : (ps : List ℕ) → T (allLatin1 ps) → (q : ℕ) → List·Memᴰ q ps → q ≤ 255
-unfolding allLatin1
-bytes-all [] h q m = absurd (List·Memᴰ·not-nil m)
-bytes-all (p ∷ ps) h q m = go (and-l (leb p 255) (allLatin1 ps) h) (List·Memᴰ·cases-cons m) (bytes-all ps (and-r (leb p 255) (allLatin1 ps) h) q)
-  where
-    go : T (leb p 255) → (q ≡ p) ⊎ List·Memᴰ q ps → (List·Memᴰ q ps → q ≤ 255) → q ≤ 255
-    go l (inl e) f = rw e (leb→le p 255 l)
-    go l (inr n) f = f n
-
-all-bytes : (ps : List ℕ) → ((q : ℕ) → List·Memᴰ q ps → q ≤ 255) → allLatin1 ps ≡ true
-unfolding allLatin1
-all-bytes [] h = refl
-all-bytes (p ∷ ps) h = rw (le-leb p 255 (h p (List·Memᴰ·head refl)), all-bytes ps (λ q m. h q (List·Memᴰ·tail m)))
-
-one-above : (ps : List ℕ) (q : ℕ) → List·Memᴰ q ps → 255 < q → allLatin1 ps ≡ false
-one-above ps q m h = is-false (allLatin1 ps) (not-T (allLatin1 ps) (λ t. omega (arith, bytes-all ps t q m)))
-
-above-one : (ps : List ℕ) → allLatin1 ps ≡ false → (q : ℕ) × List·Memᴰ q ps × (255 < q)
-unfolding allLatin1
-above-one [] h = let z : _≡_ {A = ℕ} 0 1 = cc in absurd (omega arith)
-above-one (p ∷ ps) h = go (leb p 255) refl h (above-one ps)
-  where
-    go : (b : Bool) → leb p 255 ≡ b → (b && allLatin1 ps) ≡ false → (allLatin1 ps ≡ false → (q : ℕ) × List·Memᴰ q ps × (255 < q)) → (q : ℕ) × List·Memᴰ q (p ∷ ps) × (255 < q)
-    go true e h f = let r = f h in (r .0, List·Memᴰ·tail (r .1), r .2)
-    go false e h f = (p, List·Memᴰ·head refl, nleb→lt p 255 (rw e tt))
-
 -- ---- what is said comes out
 
 passes : (p c : ℕ) (n : Option ℕ) → Passes p c n → fixedTooShort p n ≡ false
@@ -59,15 +29,20 @@ unfolding fixedTooShort
 passes p c none h = refl
 passes p c (some n) h = h .size-enough n refl
 
-pub string-gives : {t : Text} {s : Schema} {o : Outcome} → StringGives t s o → resolve s (Value.Octets Kind.String t) ≡ o
-unfolding resolve peel
-string-gives {t} (stated-size {n} h) = string-into-fixed n t h
-string-gives {t} (another-size {n} h) = string-of-another-size n t h
-string-gives {t} (scale-exceeds {p} {c} {n} h) = scale-first p c h n (Value.Octets Kind.String t)
-string-gives {t} (size-too-small {p} {c} {n} h q) = size-second p c h n q (Value.Octets Kind.String t)
-string-gives {t} (above-a-byte {p} {c} {n} {ps} {q} h e m a) = string-above p c n (h .scale-within) (passes p c n h) t ps e (one-above ps q m a)
-string-gives {t} (too-few {p} {c} {n} {ps} h e b q) = string-of-too-few p c n (h .scale-within) (passes p c n h) t ps e (all-bytes ps b) q
-string-gives {t} (enough {p} {c} {n} {ps} h e b q) = string-into-decimal p c n (h .scale-within) (passes p c n h) t ps e (all-bytes ps b) q
+-- by itself, or in one Union
+pub string-gives : {t : Text} {s : Schema} {o : Outcome} → StringGives t s o → (v : Value) → peel v ≡ Value.Octets Kind.String t → resolve s v ≡ o
+unfolding resolve
+string-gives {t} (stated-size {n} h) v e = rw e (string-into-fixed n t h)
+string-gives {t} (another-size {n} h) v e = rw e (string-of-another-size n t h)
+string-gives {t} (scale-exceeds {p} {c} {n} h) v e = scale-first p c h n v
+string-gives {t} (size-too-small {p} {c} {n} h q) v e = size-second p c h n q v
+string-gives {t} (above-a-byte {p} {c} {n} {ps} {q} h d m a) v e = rw e (string-above p c n (h .scale-within) (passes p c n h) t ps d (above→notLatin1 ps q m a))
+string-gives {t} (too-few {p} {c} {n} {ps} h d b q) v e = rw e (string-of-too-few p c n (h .scale-within) (passes p c n h) t ps d (each→allLatin1 ps b) q)
+string-gives {t} (enough {p} {c} {n} {ps} h d b q) v e = rw e (string-into-decimal p c n (h .scale-within) (passes p c n h) t ps d (each→allLatin1 ps b) q)
+
+text-gives : {t : Text} {s : Schema} {o : Outcome} → StringGives t s o → resolve s (Value.Octets Kind.String t) ≡ o
+unfolding peel
+text-gives {t} g = string-gives g (Value.Octets Kind.String t) refl
 
 -- a missing field's default is no exception
 not-union : {t : Text} {s : Schema} {o : Outcome} → StringGives t s o → schemaKind s ≡ Kind.Union → ⊥
@@ -81,7 +56,7 @@ not-union (too-few h c b q) e = omega (arith, e)
 not-union (enough h c b q) e = omega (arith, e)
 
 pub default-gives : {t : Text} {s : Schema} {o : Outcome} (n : Text) (es : Entries) → Absent n es → StringGives t s o → fieldOutcome n (some (Value.Octets Kind.String t)) s es ≡ o
-default-gives {t} {s} n es h g = default-taken n s es (Value.Octets Kind.String t) h (not-union g) ∙ string-gives g
+default-gives {t} {s} n es h g = default-taken n s es (Value.Octets Kind.String t) h (not-union g) ∙ text-gives g
 
 -- say, `ab` as the default of a Fixed of 4, and of 2
 pub short-default : fieldOutcome (ascii "a") (some (Value.Octets Kind.String (ascii "ab"))) (Schema.Fixed 4) noEntries ≡ stop 10
@@ -95,7 +70,7 @@ right-default = default-gives (ascii "a") noEntries tt (stated-size refl)
 -- ---- what comes out is said
 
 given : {t : Text} {s : Schema} {o : Outcome} → StringGives t s o → StringGives t s (resolve s (Value.Octets Kind.String t))
-given {t} {s} g = subst (StringGives t s) (sym (string-gives g)) g
+given {t} {s} g = subst (StringGives t s) (sym (text-gives g)) g
 
 pub fixed-given : (t : Text) (n : ℕ) → StringGives t (Schema.Fixed n) (resolve (Schema.Fixed n) (Value.Octets Kind.String t))
 fixed-given t n = go (eqb (length t) n) refl
@@ -111,9 +86,9 @@ passed-given t ps e p c n h = go (allLatin1 ps) refl (tooShortFor p (length ps))
   where
     go : (a : Bool) → allLatin1 ps ≡ a → (b : Bool) → tooShortFor p (length ps) ≡ b
         → StringGives t (Schema.Decimal p c n) (resolve (Schema.Decimal p c n) (Value.Octets Kind.String t))
-    go false l b q = let r = above-one ps l in given (above-a-byte h e (r .1) (r .2))
-    go true l true q = given (too-few h e (bytes-all ps (rw l tt)) q)
-    go true l false q = given (enough h e (bytes-all ps (rw l tt)) q)
+    go false l b q = let r = notLatin1→above ps l in given (above-a-byte h e (r .1) (r .2))
+    go true l true q = given (too-few h e (allLatin1→each ps (rw l tt)) q)
+    go true l false q = given (enough h e (allLatin1→each ps (rw l tt)) q)
 
 sized-given : (t ps : List ℕ) → codePoints t ≡ some ps → (p c : ℕ) → c ≤ p → (n : Option ℕ)
     → StringGives t (Schema.Decimal p c n) (resolve (Schema.Decimal p c n) (Value.Octets Kind.String t))

@@ -258,7 +258,7 @@ fn decimal_points(precision: u32, t: &[u8], n: usize, out: &mut [u8]) -> Answer
     Answer::Accepted(append_points(t, n, out, at))
 }
 
-// A text as a Decimal: a code point above 255 is no byte, and comes before too few of them.
+// A text as a Decimal. A code point above 255, which is no byte, is refused before the precision is looked at.
 fn decimal_text(precision: u32, t: &[u8], out: &mut [u8]) -> Answer
     requires { ⌜ (isUtf8 (now t) ≡ true) × (length (now t) < 65536) ⌝ }
     ensures { λ r. ⌜ Wrote (encoded (after (textPoints (codePoints (now (t .entry)))) (λ s. decimalOfBytes precision s))) (now (out .exit)) r ⌝ }

@@ -11,7 +11,6 @@ use Rattle.base.specs.Base.{if_then_else_, ok, stop, after}
 use Rattle.base.proofs.Okay.{okay-is}
 use Rattle.text.specs.Text.{Text, same}
 use Rattle.text.proofs.TextLaws.{same→≡}
-use Rattle.frame.specs.Kind
 use Rattle.frame.specs.Tree.{Value, Values, Entries, Schema, Fields, Variants, noItems, item, noEntries, entry, noFields, field, noVariants, variant, kindOf, items, entries, peel, schemaKind}
 use Rattle.frame.specs.Sound.{schemaSound, fieldsSound, variantsSound, hasField, countVariants}
 use Rattle.frame.proofs.SoundLaws.{SoundUnion, SoundVariant, sound-union, sound-variant, sound-field}

@@ -10,7 +10,6 @@ use lib.Ieee.Bits.{is-true, is-false}
 use Rattle.base.specs.Base.{if_then_else_}
 use Rattle.text.specs.Text.{Text, same}
 use Rattle.text.proofs.TextLaws.{same→≡}
-use Rattle.frame.specs.Kind
 use Rattle.frame.specs.Tree.{Value, Values, Entries, Schema, Fields, item, noEntries, entry, noFields, field, noVariants, variant, entries}
 use Rattle.frame.specs.Sound.{fieldsSound, hasField}
 use Rattle.frame.specs.Faults.{FieldOf, first-field, later-field}

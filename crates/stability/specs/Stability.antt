@@ -3,7 +3,6 @@ use mathlib.Core.Option.{Option, none, some}
 use mathlib.Core.Bool.{Bool, true, false, _||_}
 use Rattle.base.specs.Base.{if_then_else_}
 use Rattle.text.specs.Text.{Text, same}
-use Rattle.frame.specs.Kind
 use Rattle.frame.specs.Tree.{Value, Values, Entries, Schema, Fields, Variants, noItems, item, noEntries, entry, noFields, field, noVariants, variant}
 
 -- under one Union, if the value is one
