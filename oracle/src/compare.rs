@@ -111,7 +111,7 @@ impl Counts {
 
     fn add_met(&mut self, s: &Schema, line: &[u8]) {
         if let Some(v) = frame::unhex(line).and_then(|b| frame::read_value(&b).ok()) {
-            meet(&v, s, &mut |_, s| *self.met.entry(s.kind()).or_default() += 1);
+            meet(&v, s, false, &mut |met| *self.met.entry(met.schema.kind()).or_default() += 1);
         }
     }
 

@@ -1,5 +1,5 @@
 //! Demand 3's words: what meets what, when a result fits, when values are alike.
-use crate::frame::{Schema, Value};
+use crate::frame::{NULL, Schema, Value};
 
 fn peeled(v: &Value) -> &Value {
     match v {
@@ -8,18 +8,26 @@ fn peeled(v: &Value) -> &Value {
     }
 }
 
-/// Calls `f` for each value node, once peeled, and the schema node that it meets.
-pub fn meet(v: &Value, s: &Schema, f: &mut dyn FnMut(&Value, &Schema)) {
+/// A value node, once peeled, and the schema node that it meets.
+pub struct Met<'a> {
+    pub value: &'a Value,
+    pub schema: &'a Schema,
+    /// Whether the value stems from a default.
+    pub from_default: bool,
+}
+
+/// Calls `f` for each pair that meets, from this one down.
+pub fn meet(v: &Value, s: &Schema, from_default: bool, f: &mut dyn FnMut(&Met)) {
     let v = peeled(v);
-    f(v, s);
+    f(&Met { value: v, schema: s, from_default });
     match (v, s) {
-        (v, Schema::Union(u)) => u.variants.iter().for_each(|s| meet(v, s, f)),
-        (Value::Array(items), Schema::Array(s)) => items.iter().for_each(|v| meet(v, s, f)),
-        (Value::Map(items), Schema::Map(s)) => items.iter().for_each(|(_, v)| meet(v, s, f)),
+        (v, Schema::Union(u)) => u.variants.iter().for_each(|s| meet(v, s, from_default, f)),
+        (Value::Array(items), Schema::Array(s)) => items.iter().for_each(|v| meet(v, s, from_default, f)),
+        (Value::Map(items), Schema::Map(s)) => items.iter().for_each(|(_, v)| meet(v, s, from_default, f)),
         (Value::Record(items) | Value::Map(items), Schema::Record(fields)) => {
             for field in fields {
                 match (items.iter().rev().find(|(n, _)| *n == field.name), &field.default) {
-                    (Some((_, v)), _) => meet(v, &field.schema, f),
+                    (Some((_, v)), _) => meet(v, &field.schema, from_default, f),
                     (None, Some(d)) => meet_default(d, &field.schema, f),
                     (None, None) => {}
                 }
@@ -29,11 +37,11 @@ pub fn meet(v: &Value, s: &Schema, f: &mut dyn FnMut(&Value, &Schema)) {
     }
 }
 
-fn meet_default(d: &Value, s: &Schema, f: &mut dyn FnMut(&Value, &Schema)) {
+fn meet_default(d: &Value, s: &Schema, f: &mut dyn FnMut(&Met)) {
     match s {
-        Schema::Union(u) if u.variants[0] == Schema::Plain(0) => {}
-        Schema::Union(u) => meet(d, &u.variants[0], f),
-        s => meet(d, s, f),
+        Schema::Union(u) if u.variants[0] == NULL => {}
+        Schema::Union(u) => meet(d, &u.variants[0], true, f),
+        s => meet(d, s, true, f),
     }
 }
 

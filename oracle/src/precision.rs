@@ -12,6 +12,11 @@ pub fn for_length(length: usize) -> usize {
     TABLE.get(length).copied().unwrap_or(usize::MAX)
 }
 
+/// The fewest bytes that have room for so many digits.
+pub fn needed(precision: u32) -> usize {
+    (0..=LONGEST).find(|l| for_length(*l) >= precision as usize).unwrap_or(LONGEST + 1)
+}
+
 /// The largest p with 10^p at most 2^(8·length − 1) − 1; 0 for no bytes.
 fn largest(length: usize) -> usize {
     if length == 0 {

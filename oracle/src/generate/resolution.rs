@@ -5,6 +5,7 @@ use super::schemas::*;
 use super::values::*;
 use super::{Case, VALUES, case, many};
 use crate::frame::{BYTES, DOUBLE, FLOAT, Field, INT, LONG, NULL, STRING, Schema, Union, Value};
+use crate::precision::needed;
 
 /// Any schema of a few levels, with values that mostly suit it.
 pub fn general(r: &mut Rng) -> Case {
@@ -365,7 +366,7 @@ pub fn decimals(r: &mut Rng) -> Case {
     let Schema::Decimal(p, _, _) = s else { unreachable!() };
     let v = (0..VALUES)
         .map(|_| {
-            let need = (0..=129).find(|l| max_prec(*l) >= p).unwrap_or(129);
+            let need = needed(p);
             let len = match r.below(3) {
                 0 => r.pick(&[0usize, 1, 2, 127, 128, 129, 130]),
                 1 => need,

@@ -2,6 +2,7 @@
 use super::random::Rng;
 use super::values::{any_default, map_of, value};
 use crate::frame::{Field, LONG, NULL, Schema, Union, Value, hex};
+use crate::precision::for_length;
 
 /// How a value or schema is made.
 #[derive(Clone, Copy)]
@@ -57,21 +58,12 @@ pub fn enumeration(r: &mut Rng) -> Schema {
     Schema::Enum(s, d)
 }
 
-/// The largest p with 10^p at most 2^(8·len − 1) − 1, for the generator's aim only.
-pub fn max_prec(len: usize) -> u32 {
-    match len {
-        0 => 0,
-        1..=128 => ((8 * len - 1) as f64 * 2f64.log10()).floor() as u32,
-        _ => u32::MAX,
-    }
-}
-
 /// A Decimal whose precision is near what a length can hold.
 pub fn decimal(r: &mut Rng) -> Schema {
     let len = r.pick(&[0usize, 1, 1, 2, 3, 4, 8, 16, 127, 128, 129, 200]);
-    let p = match max_prec(len) {
-        u32::MAX => r.pick(&[308u32, 1000, u32::MAX, 0, 310]),
-        p => r.pick(&[p, p + 1, p.saturating_sub(1), p / 2, 1, 0]),
+    let p = match u32::try_from(for_length(len)) {
+        Err(_) => r.pick(&[308u32, 1000, u32::MAX, 0, 310]),
+        Ok(p) => r.pick(&[p, p + 1, p.saturating_sub(1), p / 2, 1, 0]),
     };
     let scale = match r.below(8) {
         0 => p.saturating_add(1),

@@ -1,10 +1,11 @@
 //! Cases about Q-6: Strings of the right length, and just beside it, against Fixed and Decimal.
 use super::random::Rng;
 use super::scalars::text;
-use super::schemas::{built, decimal, max_prec, odd_tables, union_of};
+use super::schemas::{built, decimal, odd_tables, union_of};
 use super::values::map_of;
 use super::{Case, case};
 use crate::frame::{BYTES, Field, INT, NULL, STRING, Schema, Union, Value};
+use crate::precision::needed;
 
 /// How many ways `sizes` has.
 pub const SIZES: usize = 17;
@@ -91,7 +92,7 @@ fn of_bytes(r: &mut Rng, n: usize) -> String {
 /// Just enough code points for the precision, one too few, one more, or at the end of the table;
 /// once in a while one of them is above 255.
 fn decimal_text(r: &mut Rng, precision: u32) -> String {
-    let need = (0..=129).find(|l| max_prec(*l) >= precision).unwrap_or(129);
+    let need = needed(precision);
     let n = match r.below(7) {
         0 | 1 => need,
         2 | 3 => need.saturating_sub(1),

@@ -1,8 +1,9 @@
 //! Values: of any kind, as a default, and for a schema.
 use super::random::Rng;
 use super::scalars::*;
-use super::schemas::{How, NAMES, max_prec};
+use super::schemas::{How, NAMES};
 use crate::frame::{Field, Schema, Value, hex};
+use crate::precision::needed;
 
 /// A map of these entries, in order; of equal keys one stays.
 pub fn map_of(mut items: Vec<(String, Value)>) -> Value {
@@ -303,7 +304,7 @@ fn record_value(r: &mut Rng, fields: &[Field], d: usize, h: How) -> Value {
 fn decimal_value(r: &mut Rng, p: u32, h: How) -> Value {
     let mut n = r.pick(&[0usize, 1, 2, 4, 16, 127, 128, 129]);
     if r.percent(80) {
-        let mut need = (0..=129).find(|l| max_prec(*l) >= p).unwrap_or(129);
+        let mut need = needed(p);
         if h.wrong > 0 && r.percent(10) {
             need = need.saturating_sub(1);
         }

@@ -2,7 +2,8 @@
 //! others the crate as it is remains the judge.
 mod q06;
 
-use crate::frame::{self, NULL, Schema, Value};
+use crate::frame::{self, Field, NULL, Schema, Value};
+use crate::meet::{Met, meet};
 use crate::plain;
 
 /// A request: its rule is a patch of the crate, its filter says which pairs the rule is about.
@@ -18,14 +19,6 @@ pub struct Request {
 
 pub const REQUESTS: &[Request] =
     &[Request { name: "Q-6", patch: "Q-06.patch", family: "sizes", touches: q06::touches }];
-
-/// A value node, once peeled, and the schema node that it meets.
-pub struct Met<'a> {
-    pub value: &'a Value,
-    pub schema: &'a Schema,
-    /// Whether the value stems from a default.
-    pub from_default: bool,
-}
 
 /// A schema, and the requests that touch each value under it.
 pub struct Filter {
@@ -69,37 +62,26 @@ fn in_defaults(s: &Schema, r: &Request) -> bool {
     }
 }
 
-/// Whether the request is about a pair that meets in this one. A union's every variant is met: a
-/// trial counts as much as the variant that is taken.
+/// Whether the request is about a pair that meets, from this one down. A union's every variant is met:
+/// a trial counts as much as the variant that is taken.
 fn in_value(v: &Value, s: &Schema, from_default: bool, r: &Request) -> bool {
-    let v = match v {
-        Value::Union(_, v) => v,
-        v => v,
-    };
-    let inner = |v: &Value, s: &Schema| in_value(v, s, from_default, r);
-    let below = match (v, s) {
-        (v, Schema::Union(u)) => u.variants.iter().any(|s| inner(v, s)),
-        (Value::Array(items), Schema::Array(s)) => items.iter().any(|v| inner(v, s)),
-        (Value::Map(items), Schema::Map(s)) => items.iter().any(|(_, v)| inner(v, s)),
-        (Value::Record(items) | Value::Map(items), Schema::Record(fields)) => {
-            fields.iter().any(|f| match (items.iter().rev().find(|(n, _)| *n == f.name), &f.default) {
-                (Some((_, v)), _) => inner(v, &f.schema),
-                (None, Some(d)) => in_default(d, &f.schema, r),
-                (None, None) => false,
-            })
-        }
-        _ => false,
-    };
-    below || (r.touches)(&Met { value: v, schema: s, from_default })
+    let mut touched = false;
+    meet(v, s, from_default, &mut |met| touched = touched || (r.touches)(met) || anew(met, r));
+    touched
 }
 
-/// A default that is needed. In a union field it meets the first variant, and what that one makes of
-/// it meets the whole union anew. The crate as it is makes it: where the request is about the first
-/// step, the answer is touched anyhow.
-fn in_default(d: &Value, s: &Schema, r: &Request) -> bool {
-    let Schema::Union(u) = s else { return in_value(d, s, true, r) };
-    let first = &u.variants[0];
-    let made = if *first == NULL { Some(Value::Null) } else { plain::made(d, first) };
-    (*first != NULL && in_value(d, first, true, r))
-        || made.is_some_and(|v| in_value(&Value::union(0, v), s, true, r))
+/// The default of a union field that is missing: what the first variant makes of it meets the whole union
+/// anew. The crate as it is makes it: where the request is about the first step, the answer is touched
+/// anyhow.
+fn anew(met: &Met, r: &Request) -> bool {
+    let (Value::Record(items) | Value::Map(items), Schema::Record(fields)) = (met.value, met.schema) else {
+        return false;
+    };
+    let missing = |f: &&Field| items.iter().all(|(n, _)| *n != f.name);
+    fields.iter().filter(missing).any(|f| {
+        let (Some(d), Schema::Union(u)) = (&f.default, &f.schema) else { return false };
+        let first = &u.variants[0];
+        let made = if *first == NULL { Some(Value::Null) } else { plain::made(d, first) };
+        made.is_some_and(|v| in_value(&Value::union(0, v), &f.schema, true, r))
+    })
 }

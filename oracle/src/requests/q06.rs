@@ -1,7 +1,7 @@
 //! Q-6: "String against Fixed must have the stated size in bytes, or 10 is given. String against
 //! Decimal must have enough bytes, one for each code point, for the precision, or 14 is given, after 6."
-use super::Met;
 use crate::frame::{Schema, Value};
+use crate::meet::Met;
 use crate::precision::for_length;
 
 /// A String and a Fixed of another size, or a String and a Decimal for whose precision it has too few
