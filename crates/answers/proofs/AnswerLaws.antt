@@ -2,6 +2,7 @@
 use Prim.Native.Nat.{ℕ, _/_, _%_, _≤_}
 use mathlib.Core.Path.{_≡_, sym, ap, _∙_, subst}
 use mathlib.Core.List.{List, [], _∷_, _++_}
+use mathlib.Core.Logic.{⊎-elim}
 use mathlib.Core.Bool.{Bool, true, false}
 use native.Mathlib.Omega.{arith}
 use lib.Dec.{ltb}
@@ -32,10 +33,10 @@ module _ (s v o w : List ℕ) (lo : length o ≡ 65535) (lw : workspaceSize ≤ 
         let i : (answer s v (length o) (length w) ≡ ok (take n o')) × (length (take n o') ≡ n) = ok-is (answer s v (length o) (length w)) o o' n (sym p ∙ e) f in
         (sym same ∙ i .0, (i .1, omega (arith, i .1, answer-accepted-small s v (length o) (length w) (take n o') (i .0) .1)))
 
-    pub refused-is : r ≡ Refused n → (answer s v 65535 workspaceSize ≡ stop n) × (n ≤ 18)
+    pub refused-is : r ≡ Refused n → (answer s v 65535 workspaceSize ≡ stop n) × (n ≤ 28)
     refused-is p =
         let i : answer s v (length o) (length w) ≡ stop n = stop-is (answer s v (length o) (length w)) n (sym p ∙ e) in
-        (sym same ∙ i, answer-refusal-small s v (length o) (length w) n i .1)
+        (sym same ∙ i, ⊎-elim (λ h. omega (arith, h)) (λ h. omega (arith, h)) (answer-refusal-small s v (length o) (length w) n i .1))
 
 -- ---- the line of an answer
 

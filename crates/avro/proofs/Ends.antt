@@ -2,6 +2,7 @@
 use Prim.Native.Nat.{ℕ, _≤_}
 use mathlib.Core.Path.{_≡_, subst, sym}
 use mathlib.Core.List.{List, [], _∷_}
+use mathlib.Core.Logic.{_⊎_, inl, inr}
 use mathlib.Core.Bool.{Bool, true, false, _&&_, _||_, not}
 use lib.Dec.{T, leb, eqb, leb→le, eqb→eq}
 use lib.Ieee.Fits.{and-l, and-r}
@@ -47,7 +48,9 @@ in-all f (m ∷ ms) n h i = go (eqb n m) (λ t. t) i (λ j. in-all f ms n (and-r
     go true t j rest = subst (λ (k : ℕ). T (f k)) (sym (eqb→eq n m (t tt))) (and-l (f m) (all f ms) h)
     go false t j rest = rest j
 
-pub listed-bounds : (n : ℕ) → T (listed n) → (6 ≤ n) × (n ≤ 17)
-listed-bounds n h =
-    let b : T (within 6 17 n) = in-all (within 6 17) resolutionNumbers n tt h in
-    (leb→le 6 n (and-l (leb 6 n) (leb n 17) b), leb→le n 17 (and-r (leb 6 n) (leb n 17) b))
+pub listed-bounds : (n : ℕ) → T (listed n) → ((6 ≤ n) × (n ≤ 17)) ⊎ (n ≡ 28)
+listed-bounds n h = go (within 6 17 n) (λ b. b) (in-all (λ m. within 6 17 m || eqb m 28) resolutionNumbers n tt h)
+  where
+    go : (b : Bool) → (T b → T (within 6 17 n)) → T (b || eqb n 28) → ((6 ≤ n) × (n ≤ 17)) ⊎ (n ≡ 28)
+    go true t j = inl (leb→le 6 n (and-l (leb 6 n) (leb n 17) (t tt)), leb→le n 17 (and-r (leb 6 n) (leb n 17) (t tt)))
+    go false t j = inr (eqb→eq n 28 j)

@@ -1,5 +1,5 @@
 -- What each leaf makes of a value: the one account of the `resolve_` functions that look at one node. A refusal is one of resolution's numbers. What comes out fits
--- the schema and resolves to itself, and a frame that holds schema and value can hold it. A new rule of a leaf is shown here, and nowhere else.
+-- the schema and resolves to itself, holds no NaN, and a frame that holds schema and value can hold it. A new rule of a leaf is shown here, and nowhere else.
 use Prim.Native.Nat.{ℕ, zero, suc, _^_, _<_, _≤_}
 use mathlib.Core.Path.{_≡_, refl, sym, ap, subst}
 use mathlib.Core.List.{List, [], _∷_}
@@ -20,7 +20,7 @@ use Rattle.text.proofs.TextLaws.{same→≡}
 use Rattle.decimal.specs.Decimal.{tooShortFor}
 use Rattle.uuid.specs.Uuid.{uuidOfText}
 use Rattle.uuid.proofs.Sizes.{length-uuidOfText}
-use Rattle.scalar.specs.Conversion.{longOfInt, inInt, intOfLong, floatOfInt, floatOfLong, floatOfDouble, doubleOfInt, doubleOfLong, doubleOfFloat, parse-special-float}
+use Rattle.scalar.specs.Conversion.{longOfInt, inInt, intOfLong, floatOfInt, floatOfLong, floatOfDouble, doubleOfInt, doubleOfLong, doubleOfFloat, floatNan, doubleNan, parse-special-float}
 use Rattle.scalar.proofs.Bounds.{floatOfInt-<, floatOfLong-<, floatOfDouble-<, doubleOfInt-<, doubleOfLong-<, doubleOfFloat-<, longOfInt-<, intOfLong-<, parse-special-float-<}
 use Rattle.frame.specs.Kind
 use Rattle.frame.specs.Tree.{Value, Values, Schema, UuidForm, noItems, item, kindOf, is, number, index, octets, items, peel}
@@ -30,11 +30,12 @@ use Rattle.frame.specs.Sound.{keysRise}
 use Rattle.frame.proofs.RoundTrip.{held, scalarHeld, octetsHeld, textHeld}
 use Rattle.frame.proofs.ReadHeld.{HeldSchema, HeldText}
 use Rattle.frame.proofs.Inside.{items-count}
-use Rattle.types.specs.Types.{Outcome, resolvePlain, resolve-null, resolve-boolean, resolve-int, resolve-long, resolve-float, resolve-double, resolve-bytes, resolve-string, resolveIntTime, resolveLongTime, special, inByte, intByte, try-u8, byteItems, fixedOfBytes, resolve-fixed, pointBytes, textPoints, fixedTooShort, decimalOfBytes, resolve-decimal, parsedUuid, uuidOfBytes, resolve-uuid, resolve-duration, next-place, position, enumAt, orDefault, resolve-enum}
+use Rattle.types.specs.Types.{Outcome, resolvePlain, resolve-null, resolve-boolean, resolve-int, resolve-long, floatOfBits, doubleOfBits, special, resolve-float, resolve-double, resolve-bytes, resolve-string, resolveIntTime, resolveLongTime, inByte, intByte, try-u8, byteItems, fixedOfBytes, resolve-fixed, pointBytes, textPoints, fixedTooShort, decimalOfBytes, resolve-decimal, parsedUuid, uuidOfBytes, resolve-uuid, resolve-duration, next-place, position, enumAt, orDefault, resolve-enum}
 use Rattle.types.proofs.ScalarLaws.{int-time-kept, long-time-kept}
 use Rattle.avro.specs.Matches.{fits, symbolAt}
 use Rattle.avro.specs.Resolve.{resolve}
 use Rattle.avro.specs.Numbers.{listed}
+use Rattle.avro.specs.Nans.{nanOf, noNan}
 use Rattle.avro.proofs.Ends.{Ends, ends-if, ends-after, ends-map}
 use Rattle.avro.proofs.SchemaCases.{childless}
 
@@ -51,6 +52,8 @@ pub record Made (s : Schema) (v r : Value) : Type 0 where
   pub holds : (d : ℕ) → HeldSchema s (suc d) → (e : ℕ) → T (held v e) → T (held r (suc d))
   -- its map keys rise
   pub keys : T (keysRise r)
+  -- it holds no NaN
+  pub no-nan : T (noNan r)
 
 -- ---- kinds
 
@@ -68,14 +71,21 @@ peel-kind (Value.Record es) h = refl
 peel-kind (Value.Union i v) h = absurd h
 
 -- none of Array, Map, Union, Record and Enum
-abbrev leafKind : ℕ → Bool
+abbrev pub leafKind : ℕ → Bool
 leafKind k = not (leb Kind.Array k && leb k Kind.Enum)
 
-data Leaf (k : ℕ) (v : Value) : Type 0 where
+-- and neither Float nor Double
+abbrev noFloat : ℕ → Bool
+noFloat k = not (eqb k Kind.Float) && not (eqb k Kind.Double)
+
+abbrev keptKind : ℕ → Bool
+keptKind k = leafKind k && noFloat k
+
+pub data Leaf (k : ℕ) (v : Value) : Type 0 where
   scalar : (n : ℕ) → v ≡ Value.Scalar k n → Leaf k v
   bytes : (b : List ℕ) → v ≡ Value.Octets k b → Leaf k v
 
-leaf-is : (k : ℕ) → T (leafKind k) → (v : Value) → T (is k v) → Leaf k v
+pub leaf-is : (k : ℕ) → T (leafKind k) → (v : Value) → T (is k v) → Leaf k v
 unfolding kindOf
 leaf-is k h v t = go v (eqb→eq (kindOf v) k t)
   where
@@ -97,6 +107,23 @@ held-octets : (k : ℕ) (b : List ℕ) (e : ℕ) → T (held (Value.Octets k b) 
 unfolding held
 held-octets k b zero h = absurd h
 held-octets k b (suc e) h = h
+
+-- a number of another kind is no NaN
+no-nan-of : (k n : ℕ) → T (noFloat k) → T (not (nanOf k n))
+no-nan-of k n h = go (eqb k Kind.Float) (eqb k Kind.Double) h
+  where
+    go : (a b : Bool) → T (not a && not b) → T (not (if a then floatNan n else if b then doubleNan n else false))
+    go true b h = absurd h
+    go false true h = absurd h
+    go false false h = tt
+
+leaf-no-nan : (k : ℕ) → T (keptKind k) → (v : Value) → T (is k v) → T (noNan v)
+unfolding noNan
+leaf-no-nan k l v t = go (leaf-is k (and-l (leafKind k) (noFloat k) l) v t)
+  where
+    go : Leaf k v → T (noNan v)
+    go (scalar n q) = rw q (no-nan-of k n (and-r (leafKind k) (noFloat k) l))
+    go (bytes b q) = rw q tt
 
 leaf-keys : (k : ℕ) → T (leafKind k) → (v : Value) → T (is k v) → T (keysRise v)
 unfolding keysRise
@@ -139,34 +166,39 @@ or-cases false b X t f g = g t
 -- ---- the ways to make something
 
 -- the value as it was
-as-it-was : (k : ℕ) → T (leafKind k) → (s : Schema) (v : Value) → T (is k v) → (T (is k v) → T (fits s v)) → (peel v ≡ v → resolve s v ≡ ok v) → Made s v v
+as-it-was : (k : ℕ) → T (keptKind k) → (s : Schema) (v : Value) → T (is k v) → (T (is k v) → T (fits s v)) → (peel v ≡ v → resolve s v ≡ ok v) → Made s v v
 as-it-was k l s v t f q = record {
-  stable = record { fitting = f t; again = q (peel-kind v (rw (kind-is k v t) (not-union k l))) };
-  holds = λ d g e h. leaf-held k l v e h t d;
-  keys = leaf-keys k l v t;
+  stable = record { fitting = f t; again = q (peel-kind v (rw (kind-is k v t) (not-union k leaf))) };
+  holds = λ d g e h. leaf-held k leaf v e h t d;
+  keys = leaf-keys k leaf v t;
+  no-nan = leaf-no-nan k l v t;
 }
   where
+    leaf : T (leafKind k)
+    leaf = and-l (leafKind k) (noFloat k) l
+
     not-union : (k : ℕ) → T (leafKind k) → T (not (eqb k Kind.Union))
     not-union k l = not-T (eqb k Kind.Union) (λ u. subst (λ (j : ℕ). T (leafKind j)) (eqb→eq k Kind.Union u) l)
 
 -- a number of kind k
-a-number : (k n : ℕ) (v : Value) → resolvePlain k (Value.Scalar k n) ≡ ok (Value.Scalar k n) → (T (bare k) → (e : ℕ) → T (held v e) → T (scalarHeld (kindContent k) n))
+a-number : (k n : ℕ) (v : Value) → resolvePlain k (Value.Scalar k n) ≡ ok (Value.Scalar k n) → T (not (nanOf k n)) → (T (bare k) → (e : ℕ) → T (held v e) → T (scalarHeld (kindContent k) n))
     → Made (Schema.Plain k) v (Value.Scalar k n)
-unfolding fits resolve kindOf peel held keysRise
-a-number k n v q b = record {
+unfolding fits resolve kindOf peel held keysRise noNan
+a-number k n v q x b = record {
   stable = record { fitting = eqb-refl k; again = q };
   holds = λ d g e h. b g e h;
   keys = tt;
+  no-nan = x;
 }
 
 -- octets of kind k
 some-octets : (k : ℕ) (b : List ℕ) (s : Schema) (v : Value) → Stable s (Value.Octets k b) → ((e : ℕ) → T (held v e) → T (octetsHeld (kindContent k) b))
     → Made s v (Value.Octets k b)
-unfolding held keysRise
-some-octets k b s v q h = record { stable = q; holds = λ d g e p. h e p; keys = tt }
+unfolding held keysRise noNan
+some-octets k b s v q h = record { stable = q; holds = λ d g e p. h e p; keys = tt; no-nan = tt }
 
 -- the same under a schema without content
-plain-as-it-was : (k : ℕ) → T (leafKind k) → (v : Value) → T (is k v) → resolvePlain k v ≡ ok v → Made (Schema.Plain k) v v
+plain-as-it-was : (k : ℕ) → T (keptKind k) → (v : Value) → T (is k v) → resolvePlain k v ≡ ok v → Made (Schema.Plain k) v v
 unfolding fits resolve
 plain-as-it-was k l v t q = as-it-was k l (Schema.Plain k) v t (λ u. u) (λ p. rw p q)
 
@@ -199,7 +231,7 @@ module _ (v : Value) where
       ends-if _ (is Kind.Int v) _ _ (λ t. plain-as-it-was Kind.Int tt v t (rw (kind-is Kind.Int v t)))
       λ _. ends-if _ (is Kind.Long v) _ _
       (λ _. ends-if _ (inInt (number v)) _ _
-      (λ _. a-number Kind.Int (intOfLong (number v)) v refl (λ _ e h. lt→ltb (intOfLong (number v)) (256 ^ 4) (intOfLong-< (number v)))) (λ _. tt))
+      (λ _. a-number Kind.Int (intOfLong (number v)) v refl tt (λ _ e h. lt→ltb (intOfLong (number v)) (256 ^ 4) (intOfLong-< (number v)))) (λ _. tt))
       (λ _. tt)
 
   long-of-int : T (is Kind.Int v) → (e : ℕ) → T (held v e) → T (ltb (longOfInt (number v)) (256 ^ 8))
@@ -208,40 +240,43 @@ module _ (v : Value) where
   made-long : PlainMade Kind.Long v (resolve-long v)
   unfolding resolvePlain resolve-long kindOf contents scalarHeld
   made-long =
-      ends-if _ (is Kind.Int v) _ _ (λ t. a-number Kind.Long (longOfInt (number v)) v refl (λ _. long-of-int t))
+      ends-if _ (is Kind.Int v) _ _ (λ t. a-number Kind.Long (longOfInt (number v)) v refl tt (λ _. long-of-int t))
       λ _. ends-if _ (is Kind.Long v) _ _ (λ t. plain-as-it-was Kind.Long tt v t (rw (kind-is Kind.Long v t))) (λ _. tt)
 
+  -- a Float by its bits, and a Double
+  a-float : (b : ℕ) → ((e : ℕ) → T (held v e) → b < 256 ^ 4) → PlainMade Kind.Float v (floatOfBits b)
+  unfolding resolvePlain resolve-float kindOf number contents scalarHeld
+  a-float b l = ends-if _ (floatNan b) _ _ (λ _. tt) λ h. a-number Kind.Float b v (rw (is-false (floatNan b) h) refl) h (λ _ e k. lt→ltb b (256 ^ 4) (l e k))
+
+  a-double : (b : ℕ) → ((e : ℕ) → T (held v e) → b < 256 ^ 8) → PlainMade Kind.Double v (doubleOfBits b)
+  unfolding resolvePlain resolve-double kindOf number contents scalarHeld
+  a-double b l = ends-if _ (doubleNan b) _ _ (λ _. tt) λ h. a-number Kind.Double b v (rw (is-false (doubleNan b) h) refl) h (λ _ e k. lt→ltb b (256 ^ 8) (l e k))
+
   made-float : PlainMade Kind.Float v (resolve-float v)
-  unfolding resolvePlain resolve-float kindOf contents scalarHeld special
+  unfolding resolve-float special contents
   made-float =
-      ends-if _ (is Kind.Int v) _ _ (λ _. a-float (floatOfInt (number v)) (floatOfInt-< (number v)))
-      λ _. ends-if _ (is Kind.Long v) _ _ (λ _. a-float (floatOfLong (number v)) (floatOfLong-< (number v)))
-      λ _. ends-if _ (is Kind.Float v) _ _ (λ t. plain-as-it-was Kind.Float tt v t (rw (kind-is Kind.Float v t)))
-      λ _. ends-if _ (is Kind.Double v) _ _ (λ _. a-float (floatOfDouble (number v)) (floatOfDouble-< (number v)))
+      ends-if _ (is Kind.Int v) _ _ (λ _. a-float (floatOfInt (number v)) (λ _ _. floatOfInt-< (number v)))
+      λ _. ends-if _ (is Kind.Long v) _ _ (λ _. a-float (floatOfLong (number v)) (λ _ _. floatOfLong-< (number v)))
+      λ _. ends-if _ (is Kind.Float v) _ _ (λ t. a-float (number v) (λ e h. number-of Kind.Float tt v e h t 4 refl))
+      λ _. ends-if _ (is Kind.Double v) _ _ (λ _. a-float (floatOfDouble (number v)) (λ _ _. floatOfDouble-< (number v)))
       λ _. ends-if _ (is Kind.String v) _ _ (λ _. by-text (parse-special-float (octets v)) (parse-special-float-< (octets v))) (λ _. tt)
     where
-      a-float : (b : ℕ) → b < 256 ^ 4 → Made (Schema.Plain Kind.Float) v (Value.Scalar Kind.Float b)
-      a-float b l = a-number Kind.Float b v refl (λ _ e h. lt→ltb b (256 ^ 4) l)
-
-      by-text : (o : Option ℕ) → ((b : ℕ) → o ≡ some b → b < 256 ^ 4) → PlainMade Kind.Float v (special Kind.Float (λ b. b) o)
+      by-text : (o : Option ℕ) → ((b : ℕ) → o ≡ some b → b < 256 ^ 4) → PlainMade Kind.Float v (special (λ b. floatOfBits b) o)
       by-text none p = tt
-      by-text (some b) p = a-float b (p b refl)
+      by-text (some b) p = a-float b (λ _ _. p b refl)
 
   made-double : PlainMade Kind.Double v (resolve-double v)
-  unfolding resolvePlain resolve-double kindOf contents scalarHeld special
+  unfolding resolve-double special contents
   made-double =
-      ends-if _ (is Kind.Int v) _ _ (λ _. a-double (doubleOfInt (number v)) (doubleOfInt-< (number v)))
-      λ _. ends-if _ (is Kind.Long v) _ _ (λ _. a-double (doubleOfLong (number v)) (doubleOfLong-< (number v)))
-      λ _. ends-if _ (is Kind.Float v) _ _ (λ _. a-double (doubleOfFloat (number v)) (doubleOfFloat-< (number v)))
-      λ _. ends-if _ (is Kind.Double v) _ _ (λ t. plain-as-it-was Kind.Double tt v t (rw (kind-is Kind.Double v t)))
+      ends-if _ (is Kind.Int v) _ _ (λ _. a-double (doubleOfInt (number v)) (λ _ _. doubleOfInt-< (number v)))
+      λ _. ends-if _ (is Kind.Long v) _ _ (λ _. a-double (doubleOfLong (number v)) (λ _ _. doubleOfLong-< (number v)))
+      λ _. ends-if _ (is Kind.Float v) _ _ (λ _. a-double (doubleOfFloat (number v)) (λ _ _. doubleOfFloat-< (number v)))
+      λ _. ends-if _ (is Kind.Double v) _ _ (λ t. a-double (number v) (λ e h. number-of Kind.Double tt v e h t 8 refl))
       λ _. ends-if _ (is Kind.String v) _ _ (λ _. by-text (parse-special-float (octets v))) (λ _. tt)
     where
-      a-double : (b : ℕ) → b < 256 ^ 8 → Made (Schema.Plain Kind.Double) v (Value.Scalar Kind.Double b)
-      a-double b l = a-number Kind.Double b v refl (λ _ e h. lt→ltb b (256 ^ 8) l)
-
-      by-text : (o : Option ℕ) → PlainMade Kind.Double v (special Kind.Double doubleOfFloat o)
+      by-text : (o : Option ℕ) → PlainMade Kind.Double v (special (λ b. doubleOfBits (doubleOfFloat b)) o)
       by-text none = tt
-      by-text (some b) = a-double (doubleOfFloat b) (doubleOfFloat-< b)
+      by-text (some b) = a-double (doubleOfFloat b) (λ _ _. doubleOfFloat-< b)
 
 -- ---- dates and times
 
@@ -252,16 +287,16 @@ unfolding scalarHeld
 same-number k j w v l m c f t e h =
     rw c (lt→ltb (number v) (256 ^ w) (or-cases (is k v) (is j v) _ t (λ u. number-of k l v e h u w c) (λ u. number-of j m v e h u w f)))
 
-made-int-time : (k : ℕ) (v : Value) → T (leafKind k) → kindContent k ≡ wide 4 → ((n : ℕ) → resolvePlain k (Value.Scalar k n) ≡ ok (Value.Scalar k n)) → PlainMade k v (resolveIntTime k v)
+made-int-time : (k : ℕ) (v : Value) → T (keptKind k) → kindContent k ≡ wide 4 → ((n : ℕ) → resolvePlain k (Value.Scalar k n) ≡ ok (Value.Scalar k n)) → PlainMade k v (resolveIntTime k v)
 unfolding resolveIntTime contents
-made-int-time k v l c q = ends-if _ (is k v || is Kind.Int v) _ _ (λ t. a-number k (number v) v (q (number v)) (λ _. same-number k Kind.Int 4 v l tt c refl t)) (λ _. tt)
+made-int-time k v l c q = ends-if _ (is k v || is Kind.Int v) _ _ (λ t. a-number k (number v) v (q (number v)) (no-nan-of k (number v) (and-r (leafKind k) (noFloat k) l)) (λ _. same-number k Kind.Int 4 v (and-l (leafKind k) (noFloat k) l) tt c refl t)) (λ _. tt)
 
-made-long-time : (k : ℕ) (v : Value) → (T (bare k) → (kindContent k ≡ wide 8) × T (leafKind k)) → ((n : ℕ) → resolvePlain k (Value.Scalar k n) ≡ ok (Value.Scalar k n))
+made-long-time : (k : ℕ) (v : Value) → T (noFloat k) → (T (bare k) → (kindContent k ≡ wide 8) × T (leafKind k)) → ((n : ℕ) → resolvePlain k (Value.Scalar k n) ≡ ok (Value.Scalar k n))
     → PlainMade k v (resolveLongTime k v)
 unfolding resolveLongTime contents scalarHeld
-made-long-time k v c q =
-    ends-if _ (is k v || is Kind.Long v) _ _ (λ t. a-number k (number v) v (q (number v)) (λ b. same-number k Kind.Long 8 v (c b .1) tt (c b .0) refl t))
-    λ _. ends-if _ (is Kind.Int v) _ _ (λ t. a-number k (longOfInt (number v)) v (q (longOfInt (number v))) (λ b e h. rw (c b .0) (long-of-int v t e h))) (λ _. tt)
+made-long-time k v f c q =
+    ends-if _ (is k v || is Kind.Long v) _ _ (λ t. a-number k (number v) v (q (number v)) (no-nan-of k (number v) f) (λ b. same-number k Kind.Long 8 v (c b .1) tt (c b .0) refl t))
+    λ _. ends-if _ (is Kind.Int v) _ _ (λ t. a-number k (longOfInt (number v)) v (q (longOfInt (number v))) (no-nan-of k (longOfInt (number v)) f) (λ b e h. rw (c b .0) (long-of-int v t e h))) (λ _. tt)
 
 -- ---- bytes and texts
 
@@ -390,7 +425,7 @@ made-plain k v =
     (λ t. or-cases (eqb k Kind.Date) (eqb k Kind.TimeMillis) _ t
     (λ u. subst (λ (j : ℕ). PlainMade j v (resolveIntTime j v)) (sym (eqb→eq k Kind.Date u)) (made-int-time Kind.Date v tt refl (int-time-kept Kind.Date)))
     (λ u. subst (λ (j : ℕ). PlainMade j v (resolveIntTime j v)) (sym (eqb→eq k Kind.TimeMillis u)) (made-int-time Kind.TimeMillis v tt refl (int-time-kept Kind.TimeMillis))))
-    (λ n8. made-long-time k v
+    (λ n8. made-long-time k v (and-i (not (eqb k Kind.Float)) (not (eqb k Kind.Double)) n4 n5)
     (λ b.
     let w : T (wide8 (kindContent k) && leafKind k) =
     other-of (not (bare k)) _ (T-not-not (bare k) b) (other-of (eqb k Kind.Date || eqb k Kind.TimeMillis) _ n8
@@ -535,12 +570,13 @@ symbol-at (s ∷ ss) (suc i) t h = let r : (i < length ss) × (getD ss i [] ≡ 
 module _ (ss : List Text) (d : Option Text) (v : Value) where
   made-symbol : (s : Text) → (HeldText d → (e : ℕ) → T (held v e) → T (textHeld s)) → (o : Option ℕ) → position s ss ≡ o → Found (λ i. T (symbolAt ss i s)) o
       → Ends (Made (Schema.Enum ss d) v) (enumAt s o)
-  unfolding enumAt resolve-enum orDefault fits resolve peel kindOf octets index held keysRise
+  unfolding enumAt resolve-enum orDefault fits resolve peel kindOf octets index held keysRise noNan
   made-symbol s t none q p = tt
   made-symbol s t (some i) q p = record {
     stable = record { fitting = p; again = rw q };
     holds = λ f g e h. and-i (ltb i (256 ^ 4)) (textHeld s) (lt→ltb i (256 ^ 4) (omega (arith, symbol-at ss i s p .0, ltb→lt (length ss) 65536 (g .1)))) (t (g .2) e h);
     keys = tt;
+    no-nan = tt;
   }
 
   made-or-default : (o : Outcome) → Ends (Made (Schema.Enum ss d) v) o → (c : Option Text) → d ≡ c → Ends (Made (Schema.Enum ss d) v) (orDefault ss c o)

@@ -44,3 +44,6 @@ pub const NO_FINISH: u8 = 24;
 pub const MILLIS_ON_DATE: u8 = 26;
 
 pub const OUTSIDE_CALENDAR: u8 = 27;
+
+// In the place of 6, where a Float or a Double would be a NaN (docs/RULES.md, "Casts").
+pub const NOT_A_NUMBER: u8 = 28;

@@ -17,11 +17,10 @@ ghost use Rattle.text.specs.Read.{readCounted};
 ghost use Rattle.text.specs.Measured.{Reads};
 ghost use Rattle.scalar.specs.Conversion.{doubleOfFloat, parse-special-float};
 ghost use Rattle.scalar.specs.Scalars.{isScalar};
-ghost use Rattle.frame.specs.Kind;
 ghost use Rattle.frame.specs.Tree.{Value};
 ghost use Rattle.frame.specs.ValueFrame.{readValue, encodeValue};
 ghost use Rattle.buffer.specs.Built.{Built, Wrote};
-ghost use Rattle.types.specs.Types.{resolve-null, resolve-boolean, resolve-int, resolve-long, special, resolve-float, resolve-double, resolvePlain};
+ghost use Rattle.types.specs.Types.{resolve-null, resolve-boolean, resolve-int, resolve-long, floatOfBits, doubleOfBits, special, resolve-float, resolve-double, resolvePlain};
 ghost use Rattle.types.specs.Contract.{encoded, onRead, valueOf, scalarOf, castOutcome};
 
 // A node of a kind and a number of 4 bytes.
@@ -125,13 +124,33 @@ fn resolve_long(v: &[u8], out: &mut [u8], depth: usize) -> Answer
     Answer::Refused(refusal::UNSUITED)
 }
 
+// A Float as a node, unless it is a NaN.
+fn put_float(out: &mut [u8], b: u32) -> Answer
+    ensures { λ r. ⌜ Wrote (encoded (floatOfBits b)) (now (out .exit)) r ⌝ }
+{
+    if 0x7f80_0000 < b % 0x8000_0000 {
+        return Answer::Refused(refusal::NOT_A_NUMBER);
+    }
+    Answer::Accepted(put_node4(out, 4, b))
+}
+
+// A Double as a node, unless it is a NaN.
+fn put_double(out: &mut [u8], b: u64) -> Answer
+    ensures { λ r. ⌜ Wrote (encoded (doubleOfBits b)) (now (out .exit)) r ⌝ }
+{
+    if 0x7ff0_0000_0000_0000 < b % 0x8000_0000_0000_0000 {
+        return Answer::Refused(refusal::NOT_A_NUMBER);
+    }
+    Answer::Accepted(put_node8(out, 5, b))
+}
+
 // A text as a Float: one of those that parse_special_float knows.
 fn float_of_text(s: &[u8], out: &mut [u8]) -> Answer
     requires { ⌜ Reads (readCounted (now s)) ⌝ }
-    ensures { λ r. ⌜ Wrote (onRead (λ t. encoded (special Kind.Float (λ b. b) (parse-special-float t))) (readCounted (now (s .entry)))) (now (out .exit)) r ⌝ }
+    ensures { λ r. ⌜ Wrote (onRead (λ t. encoded (special (λ b. floatOfBits b) (parse-special-float t))) (readCounted (now (s .entry)))) (now (out .exit)) r ⌝ }
 {
     match bits::parse_special_float(text::content(s)) {
-        SpecialFloat::Bits(b) => return Answer::Accepted(put_node4(out, 4, b)),
+        SpecialFloat::Bits(b) => return put_float(out, b),
         SpecialFloat::NotOne => return Answer::Refused(refusal::UNSUITED),
     }
 }
@@ -142,16 +161,16 @@ fn resolve_float(v: &[u8], out: &mut [u8], depth: usize) -> Answer
 {
     let k = v[0];
     if k == kind::INT {
-        return Answer::Accepted(put_node4(out, 4, bits::int_to_float(number::read4(v, 1))));
+        return put_float(out, bits::int_to_float(number::read4(v, 1)));
     }
     if k == kind::LONG {
-        return Answer::Accepted(put_node4(out, 4, bits::long_to_float(number::read8(v, 1))));
+        return put_float(out, bits::long_to_float(number::read8(v, 1)));
     }
     if k == kind::FLOAT {
-        return Answer::Accepted(put_node4(out, 4, bits::float_to_float(number::read4(v, 1))));
+        return put_float(out, bits::float_to_float(number::read4(v, 1)));
     }
     if k == kind::DOUBLE {
-        return Answer::Accepted(put_node4(out, 4, bits::double_to_float(number::read8(v, 1))));
+        return put_float(out, bits::double_to_float(number::read8(v, 1)));
     }
     if k == kind::STRING {
         return float_of_text(&v[1..], out);
@@ -162,14 +181,10 @@ fn resolve_float(v: &[u8], out: &mut [u8], depth: usize) -> Answer
 // A text as a Double: that Float, widened.
 fn double_of_text(s: &[u8], out: &mut [u8]) -> Answer
     requires { ⌜ Reads (readCounted (now s)) ⌝ }
-    ensures { λ r. ⌜ Wrote (onRead (λ t. encoded (special Kind.Double doubleOfFloat (parse-special-float t))) (readCounted (now (s .entry)))) (now (out .exit)) r ⌝ }
+    ensures { λ r. ⌜ Wrote (onRead (λ t. encoded (special (λ b. doubleOfBits (doubleOfFloat b)) (parse-special-float t))) (readCounted (now (s .entry)))) (now (out .exit)) r ⌝ }
 {
     match bits::parse_special_float(text::content(s)) {
-        SpecialFloat::Bits(b) => return Answer::Accepted(put_node8(
-            out,
-            5,
-            bits::float_to_double(b),
-        )),
+        SpecialFloat::Bits(b) => return put_double(out, bits::float_to_double(b)),
         SpecialFloat::NotOne => return Answer::Refused(refusal::UNSUITED),
     }
 }
@@ -180,16 +195,16 @@ fn resolve_double(v: &[u8], out: &mut [u8], depth: usize) -> Answer
 {
     let k = v[0];
     if k == kind::INT {
-        return Answer::Accepted(put_node8(out, 5, bits::int_to_double(number::read4(v, 1))));
+        return put_double(out, bits::int_to_double(number::read4(v, 1)));
     }
     if k == kind::LONG {
-        return Answer::Accepted(put_node8(out, 5, bits::long_to_double(number::read8(v, 1))));
+        return put_double(out, bits::long_to_double(number::read8(v, 1)));
     }
     if k == kind::FLOAT {
-        return Answer::Accepted(put_node8(out, 5, bits::float_to_double(number::read4(v, 1))));
+        return put_double(out, bits::float_to_double(number::read4(v, 1)));
     }
     if k == kind::DOUBLE {
-        return Answer::Accepted(put_node8(out, 5, bits::double_to_double(number::read8(v, 1))));
+        return put_double(out, bits::double_to_double(number::read8(v, 1)));
     }
     if k == kind::STRING {
         return double_of_text(&v[1..], out);

@@ -50,8 +50,8 @@ pub data Answered (schema value : List ℕ) (buffer workspace : ℕ) : Result (L
   -- 5: the value is no frame, or its map keys don't rise
   no-value : (s : Schema) → SchemaPasses schema workspace s → decodeValue value ≡ none → Answered schema value buffer workspace (stop 5)
   fallen-keys : (s : Schema) → SchemaPasses schema workspace s → (v : Value) → decodeValue value ≡ some v → T (not (keysRise v)) → Answered schema value buffer workspace (stop 5)
-  -- 6 to 17: resolution refuses
-  refused : (s : Schema) → SchemaPasses schema workspace s → (v : Value) → ValuePasses value v → (n : ℕ) → resolve s v ≡ stop n → 6 ≤ n → n ≤ 17
+  -- 6 to 17, and 28: resolution refuses
+  refused : (s : Schema) → SchemaPasses schema workspace s → (v : Value) → ValuePasses value v → (n : ℕ) → resolve s v ≡ stop n → ((6 ≤ n) × (n ≤ 17)) ⊎ (n ≡ 28)
       → Answered schema value buffer workspace (stop n)
   -- 18: the accepted result exceeds 65,535 bytes or the buffer
   too-long : (s : Schema) → SchemaPasses schema workspace s → (v : Value) → ValuePasses value v → (r : Value) → resolve s v ≡ ok r
@@ -79,7 +79,7 @@ module _ (schema value : List ℕ) (buffer workspace : ℕ) where
       → Way (after o (λ r. checkedResult buffer (encodeValue r)))
   unfolding after
   by-outcome s p v w (ok r) e = by-size s p v w r e
-  by-outcome s p v w (stop n) e = let b : (6 ≤ n) × (n ≤ 17) = refusal-resolve s v n e in refused s p v w n e (b .0) (b .1)
+  by-outcome s p v w (stop n) e = refused s p v w n e (refusal-resolve s v n e)
 
   by-value : (s : Schema) → SchemaPasses schema workspace s → (o : Option Value) → decodeValue value ≡ o
       → Way (after (checkedValue o) (λ v. after (resolve s v) (λ r. checkedResult buffer (encodeValue r))))
@@ -160,7 +160,7 @@ module _ {schema value : List ℕ} {buffer workspace : ℕ} where
   answer-only (long-default s room e h l) = rw (room-false room, e, is-true (schemaSound s) h, long-told l)
   answer-only (no-value s p e) = rw (room-false (p .room), passes p, e)
   answer-only (fallen-keys s p v e h) = rw (room-false (p .room), passes p, e, is-false (keysRise v) h)
-  answer-only (refused s p v w n e l h) = rw (room-false (p .room), passes p, value-passes w, e)
+  answer-only (refused s p v w n e h) = rw (room-false (p .room), passes p, value-passes w, e)
   answer-only (too-long s p v w r e h) = rw (room-false (p .room), passes p, value-passes w, e, exceeds buffer (length (encodeValue r)) h)
   answer-only (accepted s p v w r e h k) =
       rw (
@@ -172,15 +172,15 @@ module _ {schema value : List ℕ} {buffer workspace : ℕ} where
         is-false (ltb buffer (length (encodeValue r))) (le→nltb buffer (length (encodeValue r)) k),
       )
 
--- ---- a number up to 17 is what resolution gives
+-- ---- a number other than 18 is what resolution gives
 
-resolution-stops : (o : Outcome) (buffer n : ℕ) → n ≤ 17 → after o (λ r. checkedResult buffer (encodeValue r)) ≡ stop n → o ≡ stop n
+resolution-stops : (o : Outcome) (buffer n : ℕ) → (n ≡ 18 → ⊥) → after o (λ r. checkedResult buffer (encodeValue r)) ≡ stop n → o ≡ stop n
 unfolding after checkedResult
 resolution-stops (stop m) buffer n h e = let i : m ≡ n = cc in ap stop i
 resolution-stops (ok r) buffer n h e = go (ltb 65535 (length (encodeValue r)) || ltb buffer (length (encodeValue r))) e
   where
     go : (b : Bool) → (if b then stop 18 else ok (encodeValue r)) ≡ stop n → ok r ≡ stop n
-    go true q = let z : 18 ≡ n = cc in absurd (omega arith)
+    go true q = let z : n ≡ 18 = cc in absurd (h z)
     go false q = let z : _≡_ {A = ℕ} 0 1 = cc in absurd (omega arith)
 
 module _ {schema value : List ℕ} {workspace : ℕ} {s : Schema} {v : Value} (p : SchemaPasses schema workspace s) (w : ValuePasses value v) (buffer : ℕ) where
@@ -188,6 +188,6 @@ module _ {schema value : List ℕ} {workspace : ℕ} {s : Schema} {v : Value} (p
   unfolding answer recordAnswer after
   record-is = rw (room-false (p .room), passes p, value-passes w)
 
-  pub resolution-number : (n : ℕ) → n ≤ 17 → (answer schema value buffer workspace ≡ stop n) ↔ (resolve s v ≡ stop n)
+  pub resolution-number : (n : ℕ) → (n ≡ 18 → ⊥) → (answer schema value buffer workspace ≡ stop n) ↔ (resolve s v ≡ stop n)
   unfolding after
   resolution-number n h = (λ e. resolution-stops (resolve s v) buffer n h (sym record-is ∙ e), λ e. record-is ∙ ap (λ o. after o (λ r. checkedResult buffer (encodeValue r))) e)

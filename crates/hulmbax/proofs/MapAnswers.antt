@@ -1,5 +1,5 @@
 -- The entry's answer to a Map under a Map schema is the number of its first failing entry in key order: of the record itself, and of a missing field's default.
-use Prim.Native.Nat.{ℕ, _≤_}
+use Prim.Native.Nat.{ℕ}
 use mathlib.Core.Path.{_≡_, refl, sym, ap, _∙_, subst}
 use mathlib.Core.List.{List, [], _∷_}
 use mathlib.Core.Logic.{_↔_}
@@ -23,7 +23,7 @@ use Rattle.hulmbax.proofs.Answered.{SchemaPasses, ValuePasses, resoluti
 
 pub map-answer : {schema value : List ℕ} {workspace : ℕ} {s : Schema} {v : Value} {es : Entries}
     → SchemaPasses schema workspace (Schema.Map s) → ValuePasses value v → peel v ≡ Value.Map es
-    → (buffer n : ℕ) → n ≤ 17 → (answer schema value buffer workspace ≡ stop n) ↔ FirstFailing (λ w. resolve s w) es n
+    → (buffer n : ℕ) → (n ≡ 18 → ⊥) → (answer schema value buffer workspace ≡ stop n) ↔ FirstFailing (λ w. resolve s w) es n
 unfolding FirstGives
 map-answer {s = s} {v = v} {es = es} p w q buffer n h =
     let a = resolution-number p w buffer n h in
@@ -43,7 +43,7 @@ mapField k es s = field k (some (Value.Map es)) (Schema.Map s) noFields
 
 pub default-answer : {schema value : List ℕ} {workspace : ℕ} {k : Text} {s : Schema} {v : Value} {es fs : Entries}
     → SchemaPasses schema workspace (Schema.Record (mapField k es s)) → ValuePasses value v → peel v ≡ Value.Record fs → Absent k fs
-    → (buffer n : ℕ) → n ≤ 17 → (answer schema value buffer workspace ≡ stop n) ↔ FirstFailing (λ w. resolve s w) es n
+    → (buffer n : ℕ) → (n ≡ 18 → ⊥) → (answer schema value buffer workspace ≡ stop n) ↔ FirstFailing (λ w. resolve s w) es n
 unfolding FirstGives resolve peel fieldOutcomes schemaKind
 default-answer {k = k} {s = s} {v = v} {es = es} {fs = fs} p w q a buffer n h =
     let r = resolution-number p w buffer n h in

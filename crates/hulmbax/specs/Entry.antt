@@ -4,6 +4,7 @@ use lib.Dec.{ltb}
 use lib.IntN.{ℤ, pos, negsuc, negℤ}
 use mathlib.Core.Path.{_≡_}
 use mathlib.Core.List.{List}
+use mathlib.Core.Logic.{_⊎_}
 use lib.ListN.{length}
 use Rattle.base.specs.Base.{if_then_else_, Result, ok, stop}
 use Rattle.frame.specs.Tree.{Value, Schema}
@@ -49,7 +50,7 @@ readCode (negsuc k) = Refused (suc k)
 -- a length is that of a frame, and a refusal is one of the rules' numbers
 unfoldable pub Bounded : Resolved → Type 0
 Bounded (Accepted n) = (1 ≤ n) × (n ≤ 65535)
-Bounded (Refused e) = (1 ≤ e) × (e ≤ 18)
+Bounded (Refused e) = (1 ≤ e) × ((e ≤ 18) ⊎ (e ≡ 28))
 
 -- what a code can tell: a length that it can hold, and a refusal's number, which is not 0
 unfoldable pub Coded : Resolved → Type 0

@@ -1,5 +1,5 @@
--- An instance of each claim of demand 3, with nothing left to assume: the starred nullable Double of docs/RULES.md, a sail number for a Fixed, and a record with and without
--- a further field.
+-- An instance of each claim, with nothing left to assume: the starred nullable Double of docs/RULES.md, a sail number for a Fixed, a record with and without a further
+-- field, and a stored one with a NaN.
 use Prim.Native.Nat.{ℕ}
 use native.Mathlib.Omega.{arith}
 use mathlib.Core.Path.{_≡_, refl, sym, ap, _∙_}
@@ -22,8 +22,9 @@ use Rattle.hulmbax.proofs.Computed.{computed}
 use Rattle.stability.specs.Stability
 use Rattle.avro.specs.Matches.{fits}
 use Rattle.avro.specs.Pairs
-use Rattle.stability.specs.Claims.{Called, Suits, Fits, Repeat, standing, Repeated, AllGive, Repeats, AreAlike, Alike}
-use Rattle.stability.proofs.Claims.{fitting, repeating}
+use Rattle.avro.specs.Nans.{noNan}
+use Rattle.stability.specs.Claims.{Called, WithoutNan, Suits, Fits, Repeat, standing, Repeated, AllGive, Repeats, AreAlike, Alike}
+use Rattle.stability.proofs.Claims.{without-nan, fitting, repeating}
 use Rattle.stability.proofs.Alike.{alike}
 
 -- a workspace
@@ -179,3 +180,23 @@ pub further-alike : (buffer workspace buffer₁ workspace₁ buffer₂ workspace
     → (r₁ ≡ r₂) × (buffer₁ ≡ buffer₂) × (workspace₁ ≡ workspace₂)
 unfolding Alike computed Pairs.nullablePairs
 further-alike = alike one oneTree refl tt without further one-alike
+
+-- ---- a stored record with a NaN under a name that the schema lacks
+
+abbrev stored : List ℕ
+stored = hex "0b00020001610200000005000162057ff8000000000123"
+
+-- reads as a frame, its NaN with all bits
+pub stored-reads : decodeValue stored
+    ≡ some (Value.Record (entry (0x61 ∷ []) (Value.Scalar Kind.Int 5) (entry (0x62 ∷ []) (Value.Scalar Kind.Double 0x7ff8_0000_0000_0123) noEntries)))
+unfolding computed
+stored-reads = refl
+
+stored-called : Called one stored small without (room .0) (workspaceAfter (ok without) (room .0)) (Accepted 11)
+unfolding computed
+stored-called = called one stored small without tt tt refl
+
+-- and what comes of it holds none
+pub stored-without-nan : (r : Value) × (decodeValue (take 11 without) ≡ some r) × T (noNan r)
+unfolding WithoutNan
+stored-without-nan = without-nan one stored small without (room .0) (workspaceAfter (ok without) (room .0)) 11 stored-called

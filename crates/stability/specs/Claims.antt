@@ -1,5 +1,5 @@
--- The claims of demand 3 (docs/RULES.md), and that nothing is left undecided, made of the entry: over what its calls show, that is their answers, their result
--- buffers and their workspaces.
+-- The claims of demand 3 (docs/RULES.md), that no result holds a NaN, and that nothing is left undecided, made of the entry: over what its calls show, that is
+-- their answers, their result buffers and their workspaces.
 use Prim.Native.Nat.{ℕ, _≤_}
 use mathlib.Core.Path.{_≡_}
 use mathlib.Core.List.{List, [], _∷_}
@@ -17,6 +17,7 @@ use Rattle.hulmbax.specs.Entry.{resolvedOf}
 use Rattle.hulmbax.specs.declared.Resolved.{Resolved}
 use Rattle.hulmbax.specs.declared.Resolved.the-variants.{Accepted, Refused}
 use Rattle.avro.specs.Matches.{fits}
+use Rattle.avro.specs.Nans.{noNan}
 use Rattle.avro.specs.Pairs.{nullablePairs}
 use Rattle.stability.specs.Stability.{strip}
 
@@ -28,6 +29,14 @@ pub record Called (schema value buffer buffer' workspace workspace' : List ℕ) 
   pub answered : r ≡ resolvedOf (answer schema value (length buffer) (length workspace))
   pub contents : buffer' ≡ bufferAfter (answer schema value (length buffer) (length workspace)) buffer
   pub cleared : workspace' ≡ workspaceAfter (answer schema value (length buffer) (length workspace)) workspace
+
+-- ---- no NaN
+
+-- an accepted result is a frame that holds no NaN at any depth, whatever schema and record are
+unfoldable pub WithoutNan : Type 0
+WithoutNan =
+    (schema value buffer buffer' workspace workspace' : List ℕ) (n : ℕ) → Called schema value buffer buffer' workspace workspace' (Accepted n)
+    → (r : Value) × (decodeValue (take n buffer') ≡ some r) × T (noNan r)
 
 -- ---- fitting and repeating
 

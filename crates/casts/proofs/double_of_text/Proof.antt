@@ -16,14 +16,14 @@ enum-known-b c = search needs
 float-to-double-requires : tie.Need-float-to-double-requires
 float-to-double-requires c κs = search needs
 
-put-node8-requires : tie.Need-put-node8-requires
-put-node8-requires c κs = search needs
+put-double-requires : tie.Need-put-double-requires
+put-double-requires c κs = search needs
 
 same-length : tie.Need-same-length
 same-length c = search needs
 
 returns : tie.Need-returns
-returns c = bits-way to-double _ _ _ (c .before .before .before .before .before .before .before .before .before .content .ensures .0) _ (c .before .before .before .before .before .before .before .before .parse-special-float .ensures) _ _ _ (c .before .before .before .before .before .before .b .given .1) (c .before .before .before .float-to-double .ensures) _ (c .before .before .put-node8 .ensures)
+returns c = bits-way to-double _ _ _ (c .before .before .before .before .before .before .before .before .before .content .ensures .0) _ (c .before .before .before .before .before .before .before .before .parse-special-float .ensures) _ _ _ (c .before .before .before .before .before .before .b .given .1) (c .before .before .before .float-to-double .ensures) _ (c .before .before .put-double .ensures)
 
 enum-told : tie.Need-enum-told
 enum-told c = search needs
@@ -39,7 +39,7 @@ double-of-text-spec =
     parse-special-float-requires
     enum-known-b
     float-to-double-requires
-    put-node8-requires
+    put-double-requires
     same-length
     returns
     enum-told

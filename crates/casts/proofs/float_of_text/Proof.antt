@@ -14,14 +14,14 @@ parse-special-float-requires c κs = search needs
 enum-known-b : tie.Need-enum-known-b
 enum-known-b c = search needs
 
-put-node4-requires : tie.Need-put-node4-requires
-put-node4-requires c κs = search needs
+put-float-requires : tie.Need-put-float-requires
+put-float-requires c κs = search needs
 
 same-length : tie.Need-same-length
 same-length c = search needs
 
 returns : tie.Need-returns
-returns c = bits-way to-float _ _ _ (c .before .before .before .before .before .before .before .before .content .ensures .0) _ (c .before .before .before .before .before .before .before .parse-special-float .ensures) _ _ _ (c .before .before .before .before .before .b .given .1) refl _ (c .before .before .put-node4 .ensures)
+returns c = bits-way to-float _ _ _ (c .before .before .before .before .before .before .before .before .content .ensures .0) _ (c .before .before .before .before .before .before .before .parse-special-float .ensures) _ _ _ (c .before .before .before .before .before .b .given .1) refl _ (c .before .before .put-float .ensures)
 
 enum-told : tie.Need-enum-told
 enum-told c = search needs
@@ -36,7 +36,7 @@ float-of-text-spec =
     content-requires
     parse-special-float-requires
     enum-known-b
-    put-node4-requires
+    put-float-requires
     same-length
     returns
     enum-told

@@ -24,14 +24,14 @@ read4-requires c κs = wide-node _ _ (c .before .before .before .before .before 
 int-to-double-requires : tie.Need-int-to-double-requires
 int-to-double-requires c κs = search needs
 
-put-node8-requires : tie.Need-put-node8-requires
-put-node8-requires c κs = search needs
+put-double-requires : tie.Need-put-double-requires
+put-double-requires c κs = search needs
 
 same-length : tie.Need-same-length
 same-length c = search needs
 
 returns : tie.Need-returns
-returns c = int-way to-double _ _ (c .before .before .before .before .before .before .before .before .before .before .pre) (c .before .before .before .before .before .before .if1 .taken) _ _ (c .before .before .before .before .read4 .ensures) (c .before .before .before .int-to-double .ensures) _ _ (c .before .before .put-node8 .ensures)
+returns c = int-way to-double _ _ (c .before .before .before .before .before .before .before .before .before .before .pre) (c .before .before .before .before .before .before .if1 .taken) _ _ (c .before .before .before .before .read4 .ensures) (c .before .before .before .int-to-double .ensures) _ _ (c .before .before .put-double .ensures)
 
 read8-requires : tie.Need-read8-requires
 read8-requires c κs = wide-node _ _ (c .before .before .before .before .before .before .pre) 3 8 long-content (c .before .if2 .taken) .0
@@ -39,14 +39,14 @@ read8-requires c κs = wide-node _ _ (c .before .before .before .before .before 
 long-to-double-requires : tie.Need-long-to-double-requires
 long-to-double-requires c κs = search needs
 
-put-node8-requires-2 : tie.Need-put-node8-requires-2
-put-node8-requires-2 c κs = search needs
+put-double-requires-2 : tie.Need-put-double-requires-2
+put-double-requires-2 c κs = search needs
 
 same-length-2 : tie.Need-same-length-2
 same-length-2 c = search needs
 
 returns-2 : tie.Need-returns-2
-returns-2 c = long-way to-double _ _ (c .before .before .before .before .before .before .before .before .before .before .before .pre) (c .before .before .before .before .before .before .if2 .taken) _ _ (c .before .before .before .before .read8 .ensures) (c .before .before .before .long-to-double .ensures) _ _ (c .before .before .put-node82 .ensures)
+returns-2 c = long-way to-double _ _ (c .before .before .before .before .before .before .before .before .before .before .before .pre) (c .before .before .before .before .before .before .if2 .taken) _ _ (c .before .before .before .before .read8 .ensures) (c .before .before .before .long-to-double .ensures) _ _ (c .before .before .put-double2 .ensures)
 
 read4-requires-2 : tie.Need-read4-requires-2
 read4-requires-2 c κs = wide-node _ _ (c .before .before .before .before .before .before .before .pre) 4 4 float-content (c .before .if3 .taken) .0
@@ -54,14 +54,14 @@ read4-requires-2 c κs = wide-node _ _ (c .before .before .before .before .befor
 float-to-double-requires : tie.Need-float-to-double-requires
 float-to-double-requires c κs = search needs
 
-put-node8-requires-3 : tie.Need-put-node8-requires-3
-put-node8-requires-3 c κs = search needs
+put-double-requires-3 : tie.Need-put-double-requires-3
+put-double-requires-3 c κs = search needs
 
 same-length-3 : tie.Need-same-length-3
 same-length-3 c = search needs
 
 returns-3 : tie.Need-returns-3
-returns-3 c = float-way to-double _ _ (c .before .before .before .before .before .before .before .before .before .before .before .before .pre) (c .before .before .before .before .before .before .if3 .taken) _ _ (c .before .before .before .before .read42 .ensures) (c .before .before .before .float-to-double .ensures) _ _ (c .before .before .put-node83 .ensures)
+returns-3 c = float-way to-double _ _ (c .before .before .before .before .before .before .before .before .before .before .before .before .pre) (c .before .before .before .before .before .before .if3 .taken) _ _ (c .before .before .before .before .read42 .ensures) (c .before .before .before .float-to-double .ensures) _ _ (c .before .before .put-double3 .ensures)
 
 read8-requires-2 : tie.Need-read8-requires-2
 read8-requires-2 c κs = wide-node _ _ (c .before .before .before .before .before .before .before .before .pre) 5 8 double-content (c .before .if4 .taken) .0
@@ -69,14 +69,14 @@ read8-requires-2 c κs = wide-node _ _ (c .before .before .before .before .befor
 double-to-double-requires : tie.Need-double-to-double-requires
 double-to-double-requires c κs = search needs
 
-put-node8-requires-4 : tie.Need-put-node8-requires-4
-put-node8-requires-4 c κs = search needs
+put-double-requires-4 : tie.Need-put-double-requires-4
+put-double-requires-4 c κs = search needs
 
 same-length-4 : tie.Need-same-length-4
 same-length-4 c = search needs
 
 returns-4 : tie.Need-returns-4
-returns-4 c = double-way to-double _ _ (c .before .before .before .before .before .before .before .before .before .before .before .before .before .pre) (c .before .before .before .before .before .before .if4 .taken) _ _ (c .before .before .before .before .read82 .ensures) (c .before .before .before .double-to-double .ensures) _ _ (c .before .before .put-node84 .ensures)
+returns-4 c = double-way to-double _ _ (c .before .before .before .before .before .before .before .before .before .before .before .before .before .pre) (c .before .before .before .before .before .before .if4 .taken) _ _ (c .before .before .before .before .read82 .ensures) (c .before .before .before .double-to-double .ensures) _ _ (c .before .before .put-double4 .ensures)
 
 sub-double-of-text : tie.Need-sub-double-of-text
 sub-double-of-text c = let h = value-there _ _ (c .before .before .before .before .before .before .before .before .pre) .1 in omega arith
@@ -106,22 +106,22 @@ resolve-double-spec =
     shared-slice-read-k
     read4-requires
     int-to-double-requires
-    put-node8-requires
+    put-double-requires
     same-length
     returns
     read8-requires
     long-to-double-requires
-    put-node8-requires-2
+    put-double-requires-2
     same-length-2
     returns-2
     read4-requires-2
     float-to-double-requires
-    put-node8-requires-3
+    put-double-requires-3
     same-length-3
     returns-3
     read8-requires-2
     double-to-double-requires
-    put-node8-requires-4
+    put-double-requires-4
     same-length-4
     returns-4
     sub-double-of-text

@@ -24,14 +24,14 @@ read4-requires c κs = wide-node _ _ (c .before .before .before .before .before 
 int-to-float-requires : tie.Need-int-to-float-requires
 int-to-float-requires c κs = search needs
 
-put-node4-requires : tie.Need-put-node4-requires
-put-node4-requires c κs = search needs
+put-float-requires : tie.Need-put-float-requires
+put-float-requires c κs = search needs
 
 same-length : tie.Need-same-length
 same-length c = search needs
 
 returns : tie.Need-returns
-returns c = int-way to-float _ _ (c .before .before .before .before .before .before .before .before .before .before .pre) (c .before .before .before .before .before .before .if1 .taken) _ _ (c .before .before .before .before .read4 .ensures) (c .before .before .before .int-to-float .ensures) _ _ (c .before .before .put-node4 .ensures)
+returns c = int-way to-float _ _ (c .before .before .before .before .before .before .before .before .before .before .pre) (c .before .before .before .before .before .before .if1 .taken) _ _ (c .before .before .before .before .read4 .ensures) (c .before .before .before .int-to-float .ensures) _ _ (c .before .before .put-float .ensures)
 
 read8-requires : tie.Need-read8-requires
 read8-requires c κs = wide-node _ _ (c .before .before .before .before .before .before .pre) 3 8 long-content (c .before .if2 .taken) .0
@@ -39,14 +39,14 @@ read8-requires c κs = wide-node _ _ (c .before .before .before .before .before 
 long-to-float-requires : tie.Need-long-to-float-requires
 long-to-float-requires c κs = search needs
 
-put-node4-requires-2 : tie.Need-put-node4-requires-2
-put-node4-requires-2 c κs = search needs
+put-float-requires-2 : tie.Need-put-float-requires-2
+put-float-requires-2 c κs = search needs
 
 same-length-2 : tie.Need-same-length-2
 same-length-2 c = search needs
 
 returns-2 : tie.Need-returns-2
-returns-2 c = long-way to-float _ _ (c .before .before .before .before .before .before .before .before .before .before .before .pre) (c .before .before .before .before .before .before .if2 .taken) _ _ (c .before .before .before .before .read8 .ensures) (c .before .before .before .long-to-float .ensures) _ _ (c .before .before .put-node42 .ensures)
+returns-2 c = long-way to-float _ _ (c .before .before .before .before .before .before .before .before .before .before .before .pre) (c .before .before .before .before .before .before .if2 .taken) _ _ (c .before .before .before .before .read8 .ensures) (c .before .before .before .long-to-float .ensures) _ _ (c .before .before .put-float2 .ensures)
 
 read4-requires-2 : tie.Need-read4-requires-2
 read4-requires-2 c κs = wide-node _ _ (c .before .before .before .before .before .before .before .pre) 4 4 float-content (c .before .if3 .taken) .0
@@ -54,14 +54,14 @@ read4-requires-2 c κs = wide-node _ _ (c .before .before .before .before .befor
 float-to-float-requires : tie.Need-float-to-float-requires
 float-to-float-requires c κs = search needs
 
-put-node4-requires-3 : tie.Need-put-node4-requires-3
-put-node4-requires-3 c κs = search needs
+put-float-requires-3 : tie.Need-put-float-requires-3
+put-float-requires-3 c κs = search needs
 
 same-length-3 : tie.Need-same-length-3
 same-length-3 c = search needs
 
 returns-3 : tie.Need-returns-3
-returns-3 c = float-way to-float _ _ (c .before .before .before .before .before .before .before .before .before .before .before .before .pre) (c .before .before .before .before .before .before .if3 .taken) _ _ (c .before .before .before .before .read42 .ensures) (c .before .before .before .float-to-float .ensures) _ _ (c .before .before .put-node43 .ensures)
+returns-3 c = float-way to-float _ _ (c .before .before .before .before .before .before .before .before .before .before .before .before .pre) (c .before .before .before .before .before .before .if3 .taken) _ _ (c .before .before .before .before .read42 .ensures) (c .before .before .before .float-to-float .ensures) _ _ (c .before .before .put-float3 .ensures)
 
 read8-requires-2 : tie.Need-read8-requires-2
 read8-requires-2 c κs = wide-node _ _ (c .before .before .before .before .before .before .before .before .pre) 5 8 double-content (c .before .if4 .taken) .0
@@ -69,14 +69,14 @@ read8-requires-2 c κs = wide-node _ _ (c .before .before .before .before .befor
 double-to-float-requires : tie.Need-double-to-float-requires
 double-to-float-requires c κs = search needs
 
-put-node4-requires-4 : tie.Need-put-node4-requires-4
-put-node4-requires-4 c κs = search needs
+put-float-requires-4 : tie.Need-put-float-requires-4
+put-float-requires-4 c κs = search needs
 
 same-length-4 : tie.Need-same-length-4
 same-length-4 c = search needs
 
 returns-4 : tie.Need-returns-4
-returns-4 c = double-way to-float _ _ (c .before .before .before .before .before .before .before .before .before .before .before .before .before .pre) (c .before .before .before .before .before .before .if4 .taken) _ _ (c .before .before .before .before .read82 .ensures) (c .before .before .before .double-to-float .ensures) _ _ (c .before .before .put-node44 .ensures)
+returns-4 c = double-way to-float _ _ (c .before .before .before .before .before .before .before .before .before .before .before .before .before .pre) (c .before .before .before .before .before .before .if4 .taken) _ _ (c .before .before .before .before .read82 .ensures) (c .before .before .before .double-to-float .ensures) _ _ (c .before .before .put-float4 .ensures)
 
 sub-float-of-text : tie.Need-sub-float-of-text
 sub-float-of-text c = let h = value-there _ _ (c .before .before .before .before .before .before .before .before .pre) .1 in omega arith
@@ -106,22 +106,22 @@ resolve-float-spec =
     shared-slice-read-k
     read4-requires
     int-to-float-requires
-    put-node4-requires
+    put-float-requires
     same-length
     returns
     read8-requires
     long-to-float-requires
-    put-node4-requires-2
+    put-float-requires-2
     same-length-2
     returns-2
     read4-requires-2
     float-to-float-requires
-    put-node4-requires-3
+    put-float-requires-3
     same-length-3
     returns-3
     read8-requires-2
     double-to-float-requires
-    put-node4-requires-4
+    put-float-requires-4
     same-length-4
     returns-4
     sub-float-of-text
