@@ -59,6 +59,7 @@ const SHIMS: &[&str] = &[
     "encode.rs",
     "util.rs",
     "validator.rs",
+    "watch.rs",
     "schema_equality.rs",
     "schema/builders.rs",
     "schema/parser.rs",

@@ -4,7 +4,7 @@ use crate::frame::{self, Schema, Value};
 use crate::generate::{Given, cases};
 use crate::judges::{self, Differ, Judged, Tally};
 use crate::meet::meet;
-use crate::requests::REQUESTS;
+use crate::requests::{REQUESTS, nan_in};
 use std::collections::BTreeMap;
 use std::fs::{self, File};
 use std::path::Path;
@@ -60,12 +60,20 @@ pub fn compare(n: usize, seed: u64, program: &Path, dir: &Path) -> bool {
     differ.all() == 0
 }
 
-/// An answer that holds for a value and is not the program's line, and whose it is.
+/// An answer that holds for a value and is not the program's line, and whose it is; or that the line is
+/// a result with a NaN.
 fn difference(judged: Option<&Judged>, got: Option<&String>) -> Option<(&'static str, String)> {
     let Some(judged) = judged else { return Some(("both crates", "no line".into())) };
     let wrong = |(_, want): &(&str, &Answer)| got != Some(&want.line());
-    let (judge, want) = judged.wanted().into_iter().find(wrong)?;
-    Some((judge, want.line()))
+    if let Some((judge, want)) = judged.wanted().into_iter().find(wrong) {
+        return Some((judge, want.line()));
+    }
+    accepted(got?).is_some_and(|b| nan_in(&b)).then(|| ("Q-10", "no NaN".into()))
+}
+
+/// The result of a line that has one.
+pub fn accepted(line: &str) -> Option<Vec<u8>> {
+    frame::unhex(line.strip_prefix("+ ")?.as_bytes())
 }
 
 /// What the cases of a run had in them.
@@ -148,7 +156,7 @@ impl Counts {
 
 /// Every sort of answer: accepted, and the numbers of program `resolve`.
 fn sorts() -> impl Iterator<Item = String> {
-    ["+".to_string()].into_iter().chain((2..=18).map(|n| n.to_string()))
+    ["+".to_string()].into_iter().chain((2..=18).chain([28]).map(|n| n.to_string()))
 }
 
 /// Counts the nodes of a value by their kind.

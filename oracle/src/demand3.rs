@@ -1,11 +1,12 @@
 //! Demand 3 on the running program: alike pairs get equal answers, and accepted results fit and
-//! repeat. The patched crate is run beside it.
+//! repeat; none holds a NaN. The patched crate is run beside it.
 use crate::answer::Answer;
-use crate::compare::run;
+use crate::compare::{accepted, run};
 use crate::frame::{self, Schema, Value, hex, schema_frame, value_frame};
 use crate::generate::{Alike, Case, alike_cases, input};
 use crate::meet::{fits, trimmed};
 use crate::patched;
+use crate::requests::nan_in;
 use std::fs;
 use std::path::Path;
 
@@ -23,6 +24,8 @@ struct Run<'a> {
     results: usize,
     unfit: usize,
     changed: usize,
+    /// Results that hold a NaN.
+    nans: usize,
     /// Lines that are not the patched crate's.
     differ: usize,
 }
@@ -30,14 +33,24 @@ struct Run<'a> {
 /// Runs until there are `n` pairs and `n` repeats.
 pub fn demand3(n: usize, seed: u64, program: &Path, dir: &Path) -> bool {
     fs::create_dir_all(dir).unwrap();
-    let mut run =
-        Run { program, dir, pairs: 0, left_out: 0, unequal: 0, results: 0, unfit: 0, changed: 0, differ: 0 };
+    let mut run = Run {
+        program,
+        dir,
+        pairs: 0,
+        left_out: 0,
+        unequal: 0,
+        results: 0,
+        unfit: 0,
+        changed: 0,
+        nans: 0,
+        differ: 0,
+    };
     let mut cases = alike_cases(seed);
     while (run.pairs < n || run.results < n) && run.differ < TOO_MANY {
         run.case(&cases.next().unwrap());
     }
     run.print();
-    run.unequal + run.unfit + run.changed + run.differ == 0
+    run.unequal + run.unfit + run.changed + run.nans + run.differ == 0
 }
 
 impl Run<'_> {
@@ -49,8 +62,7 @@ impl Run<'_> {
             assert!(trimmed(a, &case.schema) == trimmed(b, &case.schema), "the generator's pairs are alike");
             self.pair(&schema, &lines[0], &lines[1]);
         }
-        let accepted = |line: &String| frame::unhex(line.strip_prefix("+ ")?.as_bytes());
-        let results = lines.iter().filter_map(accepted).collect();
+        let results = lines.iter().filter_map(|line| accepted(line)).collect();
         self.repeat(&case.schema, (schema, results));
     }
 
@@ -73,12 +85,14 @@ impl Run<'_> {
         for (result, line) in case.1.iter().zip(&lines) {
             let unfit = !frame::read_value(result).is_ok_and(|v| fits(&v, tree));
             let changed = *line != format!("+ {}", hex(result));
-            if unfit || changed {
+            let nan = nan_in(result);
+            if unfit || changed || nan {
                 println!("schema {}: result {} repeats to {line}", hex(&case.0), hex(result));
             }
             self.results += 1;
             self.unfit += unfit as usize;
             self.changed += changed as usize;
+            self.nans += nan as usize;
         }
     }
 
@@ -98,7 +112,10 @@ impl Run<'_> {
             "{} alike pairs: {} unequal ({} more left out: 2 to 5)",
             self.pairs, self.unequal, self.left_out
         );
-        println!("{} results: {} don't fit, {} repeats change", self.results, self.unfit, self.changed);
+        println!(
+            "{} results: {} don't fit, {} repeats change, {} hold a NaN",
+            self.results, self.unfit, self.changed, self.nans
+        );
         println!("lines that differ from the patched crate's: {}", self.differ);
     }
 }

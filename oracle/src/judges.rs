@@ -36,28 +36,27 @@ impl Judged {
     }
 }
 
-pub fn of_case(case: &Case) -> Vec<Judged> {
-    let filter = Filter::new(Some(&case.0));
-    let touched = case.1.iter().map(|v| filter.touching(Some(v)));
-    joined(patched::of_case(case), plain::of_case(case), touched)
+pub fn of_case((schema, values): &Case) -> Vec<Judged> {
+    let values: Vec<_> = values.iter().map(|v| Some(v.as_slice())).collect();
+    of_frames(Some(schema), &values)
 }
 
 /// For each value of an input of program `resolve`.
 pub fn of_input(input: &[u8]) -> Vec<Judged> {
     let frames: Vec<_> = frame::lines(input).into_iter().map(frame::unhex).collect();
     let Some((schema, values)) = frames.split_first() else { return vec![] };
-    let filter = Filter::new(schema.as_deref());
-    let touched = values.iter().map(|v| filter.touching(v.as_deref()));
-    joined(patched::of_input(input), plain::of_input(input), touched)
+    let values: Vec<_> = values.iter().map(|v| v.as_deref()).collect();
+    of_frames(schema.as_deref(), &values)
 }
 
-fn joined(
-    patched: Vec<Answer>,
-    plain: Vec<Answer>,
-    touched: impl Iterator<Item = Vec<&'static str>>,
-) -> Vec<Judged> {
-    let both = patched.into_iter().zip(plain);
-    both.zip(touched).map(|((patched, plain), touched)| Judged { patched, plain, touched }).collect()
+fn of_frames(schema: Option<&[u8]>, values: &[Option<&[u8]>]) -> Vec<Judged> {
+    let filter = Filter::new(schema);
+    let answers = patched::watched(schema, values).into_iter().zip(plain::answers(schema, values));
+    let one = |(value, ((patched, marked), plain)): (&Option<&[u8]>, _)| {
+        let touched = filter.touching(*value, marked);
+        Judged { patched, plain, touched }
+    };
+    values.iter().zip(answers).map(one).collect()
 }
 
 /// How many values differ from whose answers.

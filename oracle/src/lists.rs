@@ -3,7 +3,7 @@
 use crate::answer::Answer;
 use crate::compare::count_kinds;
 use crate::frame::{self, BOOLEAN, BYTES, DOUBLE, FLOAT, Field, INT, LONG, NULL, STRING, Schema, Value, hex};
-use crate::generate::{self, Case, FAMILIES, Family, GRID, How, PLAIN, Rng, SIZES, built};
+use crate::generate::{self, Case, FAMILIES, Family, GRID, How, NANS, PLAIN, Rng, SIZES, built, lead};
 use crate::{judges, patched, plain};
 use std::collections::{BTreeMap, BTreeSet};
 use std::fmt::Write;
@@ -96,6 +96,7 @@ fn vectors(seed: u64) -> (String, String) {
             let case = match family.name {
                 "grid" => generate::grid(&mut r, taken / 27 % GRID),
                 "sizes" => generate::sizes(&mut r, made % SIZES),
+                "nans" => generate::nans(&mut r, made % NANS),
                 _ => (family.make)(&mut r),
             };
             made += 1;
@@ -184,11 +185,7 @@ fn outcome(what: char, b: &[u8]) -> &'static str {
 /// A union of Null and `x` as the builder makes it, whose kind table leads `more` kinds to `x` too.
 fn pair(x: Schema, more: &[u8]) -> Schema {
     let mut u = built(vec![NULL, x]).0;
-    for &k in more {
-        u.kinds.retain(|e| e.0 != k);
-        u.kinds.push((k, 1));
-    }
-    u.kinds.sort();
+    more.iter().for_each(|&kind| lead(&mut u, kind, Some(1)));
     Schema::Union(u)
 }
 

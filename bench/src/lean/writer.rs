@@ -1,4 +1,4 @@
-//! The crate's `Value` as a frame. A NaN gets the bits of one that a conversion made.
+//! The crate's `Value` as a frame.
 use apache_avro::types::Value;
 
 pub fn write_value(out: &mut Vec<u8>, v: &Value) {
@@ -31,8 +31,8 @@ fn write_leaf(out: &mut Vec<u8>, v: &Value) {
         Value::Boolean(b) => out.extend_from_slice(&[1, *b as u8]),
         Value::Int(n) => b32(out, 2, *n as u32),
         Value::Long(n) => b64(out, 3, *n as u64),
-        Value::Float(x) => b32(out, 4, if x.is_nan() { 0x7fc0_0000 } else { x.to_bits() }),
-        Value::Double(x) => b64(out, 5, if x.is_nan() { 0x7ff8_0000_0000_0000 } else { x.to_bits() }),
+        Value::Float(x) => b32(out, 4, x.to_bits()),
+        Value::Double(x) => b64(out, 5, x.to_bits()),
         Value::Bytes(b) => octets(out, 6, b),
         Value::String(s) => octets(out, 7, s.as_bytes()),
         Value::Enum(i, s) => {

@@ -54,6 +54,11 @@ impl Buffer {
         self.len
     }
 
+    /// So many bytes of the slice, from its start.
+    pub fn first(&self, bytes: usize) -> &[u8] {
+        &self.arena[self.start..self.start + bytes]
+    }
+
     /// Whether the slice begins with `bytes` now and all else is as it was.
     pub fn holds(&self, bytes: &[u8]) -> bool {
         let end = self.start + bytes.len();

@@ -6,6 +6,7 @@ use oracle::answer::Answer;
 use oracle::frame::MAX_FRAME;
 use oracle::generate::{Rng, input};
 use oracle::judges::{self, Differ, Judged, Tally};
+use oracle::requests::nan_in;
 use std::collections::BTreeMap;
 use std::fs;
 use std::path::Path;
@@ -125,6 +126,8 @@ impl Tester {
             Err(format!("gives {given}, but the result buffer is wrong"))
         } else if !self.workspace.holds(cleared) {
             Err(format!("gives {given}, but the workspace is wrong"))
+        } else if given > 0 && nan_in(self.result.first(given as usize)) {
+            Err(format!("gives {given}, but the result holds a NaN"))
         } else {
             Ok(())
         }

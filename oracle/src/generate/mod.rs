@@ -4,6 +4,8 @@ mod alike;
 mod damage;
 mod frames;
 mod lengths;
+mod nans;
+mod places;
 mod random;
 mod resolution;
 mod scalars;
@@ -13,9 +15,10 @@ mod values;
 
 pub use alike::{Alike, alike_cases};
 pub use damage::damage;
+pub use nans::{NANS, nans};
 pub use random::Rng;
 pub use resolution::{GRID, grid};
-pub use schemas::{How, PLAIN, built, schema};
+pub use schemas::{How, PLAIN, built, lead, schema};
 pub use sizes::{SIZES, sizes};
 pub use values::{any, value};
 
@@ -66,6 +69,7 @@ pub const FAMILIES: &[Family] = &[
     family("flags", 4, frames::flags),
     family("trials", 3, lengths::trials),
     family("sizes", 9, sizes::any_sizes),
+    family("nans", 9, nans::any_nans),
 ];
 
 /// How many values most families make for a schema.

@@ -120,6 +120,13 @@ pub fn union_of(variants: Vec<Schema>) -> Schema {
     Schema::Union(built(variants).0)
 }
 
+/// The kind table leads this kind to that variant, or nowhere.
+pub fn lead(u: &mut Union, kind: u8, to: Option<usize>) {
+    u.kinds.retain(|e| e.0 != kind);
+    u.kinds.extend(to.map(|to| (kind, to as u16)));
+    u.kinds.sort();
+}
+
 /// Changes the tables of a union to ones that the builder wouldn't make.
 pub fn odd_tables(r: &mut Rng, u: &mut Union) {
     let n = u.variants.len() as u64;

@@ -1,9 +1,9 @@
 //! Cases about Q-6: Strings of the right length, and just beside it, against Fixed and Decimal.
+use super::Case;
+use super::places::{grown, placed, under};
 use super::random::Rng;
 use super::scalars::text;
-use super::schemas::{built, decimal, odd_tables, union_of};
-use super::values::map_of;
-use super::{Case, case};
+use super::schemas::{built, decimal, lead, odd_tables};
 use crate::frame::{BYTES, Field, INT, NULL, STRING, Schema, Union, Value};
 use crate::precision::needed;
 
@@ -39,10 +39,14 @@ pub fn sizes(r: &mut Rng, way: usize) -> Case {
             let size = r.pick(&[bytes as u16, 4093, 4094, 5000]);
             measured(r, bytes, size)
         }
-        15 => grown(r, 3, 5000),
+        15 => {
+            let text = of_bytes(r, 3);
+            grown(r, Schema::Fixed(2), text, 5000)
+        }
         _ => {
             let (bytes, length) = (r.range(2, 3), r.pick(&[3000, 5000]));
-            grown(r, bytes, length)
+            let text = of_bytes(r, bytes);
+            grown(r, Schema::Fixed(2), text, length)
         }
     }
 }
@@ -110,22 +114,6 @@ fn decimal_text(r: &mut Rng, precision: u32) -> String {
 }
 
 // ---------------------------------------------------------------- where they meet
-
-/// The schema alone, as items, values, a field or the other side of a nullable pair.
-fn placed(r: &mut Rng, s: Schema, v: Vec<Value>) -> Case {
-    let entries = |v: &[Value]| v.iter().cloned().enumerate().map(|(i, v)| (format!("k{i}"), v)).collect();
-    let (s, v) = match r.below(8) {
-        0 => (Schema::array(s), v.chunks(2).map(|v| Value::Array(v.to_vec())).collect()),
-        1 => (Schema::map(s), v.chunks(2).map(|v| map_of(entries(v))).collect()),
-        2 => {
-            let record = |v| Value::Record(vec![("r".into(), v)]);
-            (Schema::Record(vec![Field::new("r", None, s)]), v.into_iter().map(record).collect())
-        }
-        3 if !matches!(s, Schema::Union(_)) => (union_of(vec![NULL, s]), v),
-        _ => (s, v),
-    };
-    case(&s, &v)
-}
 
 fn string(r: &mut Rng, x: &Schema) -> Value {
     Value::Str(text_for(r, x))
@@ -207,7 +195,7 @@ fn trial(r: &mut Rng, x: Schema) -> Case {
         r.shuffle(&mut variants);
     }
     let mut u = built(variants).0;
-    u.kinds.retain(|e| e.0 != 7);
+    lead(&mut u, 7, None);
     let v = (0..10).map(|_| string(r, &x)).collect();
     placed(r, Schema::Union(u), v)
 }
@@ -218,9 +206,7 @@ fn led(r: &mut Rng, x: Schema) -> Case {
     let at = r.below(variants.len() + 1);
     variants.insert(at, x.clone());
     let mut u = built(variants).0;
-    u.kinds.retain(|e| e.0 != 7);
-    u.kinds.push((7, at as u16));
-    u.kinds.sort();
+    lead(&mut u, 7, Some(at));
     let v = (0..10).map(|_| string(r, &x)).collect();
     placed(r, Schema::Union(u), v)
 }
@@ -232,23 +218,12 @@ fn nullable(r: &mut Rng, x: Schema) -> Case {
     variants.insert(at, x.clone());
     let mut u = built(variants).0;
     if r.percent(50) {
-        u.kinds.retain(|e| e.0 != 7);
-        u.kinds.push((7, at as u16));
-        u.kinds.sort();
+        lead(&mut u, 7, Some(at));
     }
     with_default(r, &x, Schema::Union(u))
 }
 
 // ---------------------------------------------------------------- number 4
-
-/// Values under a record with a default that number 4 measures; one of them is no frame.
-fn under(r: &mut Rng, default: Value, variants: Vec<Schema>) -> Case {
-    let s = Schema::Record(vec![Field::new("a", Some(default), union_of(variants))]);
-    let given = Value::Record(vec![("a".into(), Value::text("ab"))]);
-    let (s, mut v) = placed(r, s, vec![Value::Record(vec![]), given, Value::Map(vec![]), Value::Null]);
-    v.push(vec![0x1a]);
-    (s, v)
-}
 
 /// A text of so many bytes against a Fixed of this size: refused there, it is not measured. One of 4,093
 /// bytes becomes a Fixed of 4,096.
@@ -256,22 +231,4 @@ fn measured(r: &mut Rng, bytes: usize, size: u16) -> Case {
     let d = Value::Str(of_bytes(r, bytes));
     let second = r.pick(&[STRING, BYTES, NULL]);
     under(r, d, vec![Schema::Fixed(size), second])
-}
-
-/// A default of so many bytes that becomes `length` bytes or more only where a Fixed of 2 refuses it and
-/// leaves the choice to a later variant.
-fn grown(r: &mut Rng, bytes: usize, length: usize) -> Case {
-    let long = "z".repeat(length);
-    let two = Schema::Fixed(2);
-    let text = of_bytes(r, bytes);
-    let (variants, item) = if r.percent(50) {
-        let x = |schema| Field::new("x", None, schema);
-        let grows = Schema::Record(vec![x(STRING), Field::new("y", Some(Value::Str(long)), STRING)]);
-        let item = Value::Map(vec![("x".into(), Value::Str(text))]);
-        (vec![Schema::Record(vec![x(two)]), grows], item)
-    } else {
-        (vec![two, Schema::Enum(vec![long.clone()], Some(long))], Value::Str(text))
-    };
-    let first = Schema::array(union_of(variants));
-    under(r, Value::Array(vec![item]), vec![first, STRING])
 }

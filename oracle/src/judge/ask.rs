@@ -5,8 +5,9 @@ use super::avro::{
     error::Details,
     schema::{Name, RecordSchema},
     types::Value as AvroValue,
+    watch,
 };
-use super::convert::{Namer, Nans, from_value, to_json, to_schema, to_value};
+use super::convert::{Namer, from_value, to_json, to_schema, to_value};
 use crate::answer::{Answer, Refusal, refused};
 use crate::frame::{self, Schema, Value};
 use crate::generate::Case;
@@ -56,6 +57,7 @@ pub fn number(e: &Error) -> u8 {
         GetEnumDefault { .. } => 15,
         FindUnionVariant { .. } => 16,
         GetField(_) => 17,
+        NanResult => 28,
         other => panic!("no number for {other:?}"),
     }
 }
@@ -96,7 +98,7 @@ fn defaults_short(s: &AvroSchema, names: &Names) -> bool {
             if let (Some(d), AvroSchema::Union(u)) = (&f.default, &f.schema)
                 && !matches!(u.variants()[0], AvroSchema::Null)
                 && let Ok(v) = resolve(AvroValue::try_from(d.clone()).unwrap(), &u.variants()[0], names)
-                && frame::value_frame(&from_value(&v, &Nans::default())).len() > 4096
+                && frame::value_frame(&from_value(&v)).len() > 4096
             {
                 return false;
             }
@@ -110,16 +112,15 @@ fn defaults_short(s: &AvroSchema, names: &Names) -> bool {
 pub fn made(default: &Value, s: &Schema) -> Option<Value> {
     let default = AvroValue::try_from(to_json(default)).unwrap();
     let v = resolve(default, &to_schema(s, &mut Namer::default()), &Names::new()).ok()?;
-    Some(from_value(&v, &Nans::default()))
+    Some(from_value(&v))
 }
 
-/// Checks 5 to 18 for one value.
+/// Checks 5 to 18, and 28, for one value.
 fn answer(p: &Prepared, bytes: Option<&[u8]>) -> Answer {
     let Some(tree) = bytes.and_then(|b| frame::read_value(b).ok()) else {
         return refused(5);
     };
-    let mut nans = Nans::default();
-    let value = to_value(&tree, &mut nans);
+    let value = to_value(&tree);
     let again = value.clone();
     match catch_unwind(AssertUnwindSafe(|| resolve(value, &p.schema, &p.names))) {
         Err(e) => Answer::Panic(panic_text(e)),
@@ -130,7 +131,7 @@ fn answer(p: &Prepared, bytes: Option<&[u8]>) -> Answer {
             Answer::Refused(Refusal { number: n.first, admitted: n.admitted, by_crate })
         }
         Ok(Ok(v)) => {
-            let out = frame::value_frame(&from_value(&v, &nans));
+            let out = frame::value_frame(&from_value(&v));
             if out.len() > frame::MAX_FRAME { refused(18) } else { Answer::Accepted(out) }
         }
     }
@@ -141,27 +142,36 @@ fn panic_text(e: Box<dyn Any + Send>) -> String {
     text.unwrap_or_default().replace('\n', " ")
 }
 
-/// The answers to a schema frame and value frames; `None` is a line that holds none.
-fn answers<'a>(schema: Option<&[u8]>, values: impl Iterator<Item = Option<&'a [u8]>>) -> Vec<Answer> {
+/// The answers to a schema frame and value frames; `None` is a line that holds none. Each with whether a NaN
+/// was refused on the way to it: for the value, in trials too, or where number 4 resolves the schema's
+/// defaults, which is on the way to every answer under the schema.
+pub fn watched(schema: Option<&[u8]>, values: &[Option<&[u8]>]) -> Vec<(Answer, bool)> {
+    watch::take_nan();
     let prepared = prepare(schema);
-    let one = |v| match &prepared {
-        Err(n) => refused(*n),
-        Ok(p) => answer(p, v),
+    let always = watch::take_nan();
+    let one = |v: &Option<&[u8]>| {
+        let answer = prepared.as_ref().map_or_else(|n| refused(*n), |p| answer(p, *v));
+        (answer, watch::take_nan() || always)
     };
-    values.map(one).collect()
+    values.iter().map(one).collect()
+}
+
+/// The answers alone.
+pub fn answers(schema: Option<&[u8]>, values: &[Option<&[u8]>]) -> Vec<Answer> {
+    watched(schema, values).into_iter().map(|(answer, _)| answer).collect()
 }
 
 pub fn of_case((schema, values): &Case) -> Vec<Answer> {
-    answers(Some(schema), values.iter().map(|v| Some(v.as_slice())))
+    let values: Vec<_> = values.iter().map(|v| Some(v.as_slice())).collect();
+    answers(Some(schema), &values)
 }
 
 /// The answers that program `resolve` of the scope gives to this input.
 pub fn of_input(input: &[u8]) -> Vec<Answer> {
     let lines: Vec<_> = frame::lines(input).into_iter().map(frame::unhex).collect();
-    match lines.split_first() {
-        None => vec![],
-        Some((schema, values)) => answers(schema.as_deref(), values.iter().map(|v| v.as_deref())),
-    }
+    let Some((schema, values)) = lines.split_first() else { return vec![] };
+    let values: Vec<_> = values.iter().map(|v| v.as_deref()).collect();
+    answers(schema.as_deref(), &values)
 }
 
 /// The numbers of a refused value.

@@ -170,64 +170,21 @@ pub fn to_json(v: &Value) -> Json {
 
 // ---------------------------------------------------------------- values
 
-/// NaNs of the input get a number in their payload, so that the ones that are kept can be told
-/// from those that a conversion or a text made: a Double's number stands in the low 29 bits,
-/// which a conversion to Float drops; a Float's becomes bits 29 and above of a Double.
-#[derive(Default)]
-pub struct Nans {
-    floats: Vec<u32>,
-    doubles: Vec<u64>,
-}
-
-const FLOAT_NAN: u32 = 0x7fc0_0000;
-const DOUBLE_NAN: u64 = 0x7ff8_0000_0000_0000;
-
-impl Nans {
-    fn float(&mut self, bits: u32) -> f32 {
-        if !f32::from_bits(bits).is_nan() {
-            return f32::from_bits(bits);
-        }
-        self.floats.push(bits);
-        f32::from_bits(FLOAT_NAN | self.floats.len() as u32)
-    }
-    fn double(&mut self, bits: u64) -> f64 {
-        if !f64::from_bits(bits).is_nan() {
-            return f64::from_bits(bits);
-        }
-        self.doubles.push(bits);
-        f64::from_bits(DOUBLE_NAN | self.doubles.len() as u64)
-    }
-    fn float_back(&self, x: f32) -> u32 {
-        if !x.is_nan() {
-            return x.to_bits();
-        }
-        let i = (x.to_bits() & 0x3f_ffff) as usize;
-        if i == 0 { FLOAT_NAN } else { self.floats[i - 1] }
-    }
-    fn double_back(&self, x: f64) -> u64 {
-        if !x.is_nan() {
-            return x.to_bits();
-        }
-        let i = (x.to_bits() & 0x1fff_ffff) as usize;
-        if i == 0 { DOUBLE_NAN } else { self.doubles[i - 1] }
-    }
-}
-
-pub fn to_value(v: &Value, n: &mut Nans) -> AvroValue {
+pub fn to_value(v: &Value) -> AvroValue {
     match v {
         Value::Null => AvroValue::Null,
         Value::Bool(b) => AvroValue::Boolean(*b),
         Value::Int(i) => AvroValue::Int(*i),
         Value::Long(i) => AvroValue::Long(*i),
-        Value::Float(b) => AvroValue::Float(n.float(*b)),
-        Value::Double(b) => AvroValue::Double(n.double(*b)),
+        Value::Float(b) => AvroValue::Float(f32::from_bits(*b)),
+        Value::Double(b) => AvroValue::Double(f64::from_bits(*b)),
         Value::Bytes(b) => AvroValue::Bytes(b.clone()),
         Value::Str(s) => AvroValue::String(s.clone()),
-        Value::Array(items) => AvroValue::Array(items.iter().map(|i| to_value(i, n)).collect()),
-        Value::Map(items) => AvroValue::Map(items.iter().map(|(k, v)| (k.clone(), to_value(v, n))).collect()),
-        Value::Union(i, v) => AvroValue::Union(*i, Box::new(to_value(v, n))),
+        Value::Array(items) => AvroValue::Array(items.iter().map(to_value).collect()),
+        Value::Map(items) => AvroValue::Map(items.iter().map(|(k, v)| (k.clone(), to_value(v))).collect()),
+        Value::Union(i, v) => AvroValue::Union(*i, Box::new(to_value(v))),
         Value::Record(items) => {
-            AvroValue::Record(items.iter().map(|(k, v)| (k.clone(), to_value(v, n))).collect())
+            AvroValue::Record(items.iter().map(|(k, v)| (k.clone(), to_value(v))).collect())
         }
         Value::Enum(i, s) => AvroValue::Enum(*i, s.clone()),
         Value::Fixed(b) => AvroValue::Fixed(b.len(), b.clone()),
@@ -248,26 +205,26 @@ pub fn to_value(v: &Value, n: &mut Nans) -> AvroValue {
     }
 }
 
-pub fn from_value(v: &AvroValue, n: &Nans) -> Value {
+pub fn from_value(v: &AvroValue) -> Value {
     let pairs = |items: &mut dyn Iterator<Item = (&String, &AvroValue)>| -> Vec<(String, Value)> {
-        items.map(|(k, v)| (k.clone(), from_value(v, n))).collect()
+        items.map(|(k, v)| (k.clone(), from_value(v))).collect()
     };
     match v {
         AvroValue::Null => Value::Null,
         AvroValue::Boolean(b) => Value::Bool(*b),
         AvroValue::Int(i) => Value::Int(*i),
         AvroValue::Long(i) => Value::Long(*i),
-        AvroValue::Float(x) => Value::Float(n.float_back(*x)),
-        AvroValue::Double(x) => Value::Double(n.double_back(*x)),
+        AvroValue::Float(x) => Value::Float(x.to_bits()),
+        AvroValue::Double(x) => Value::Double(x.to_bits()),
         AvroValue::Bytes(b) => Value::Bytes(b.clone()),
         AvroValue::String(s) => Value::Str(s.clone()),
-        AvroValue::Array(items) => Value::Array(items.iter().map(|i| from_value(i, n)).collect()),
+        AvroValue::Array(items) => Value::Array(items.iter().map(from_value).collect()),
         AvroValue::Map(items) => {
             let mut p = pairs(&mut items.iter());
             p.sort_by(|a, b| a.0.as_bytes().cmp(b.0.as_bytes()));
             Value::Map(p)
         }
-        AvroValue::Union(i, v) => Value::Union(*i, Box::new(from_value(v, n))),
+        AvroValue::Union(i, v) => Value::Union(*i, Box::new(from_value(v))),
         AvroValue::Record(items) => Value::Record(pairs(&mut items.iter().map(|(k, v)| (k, v)))),
         AvroValue::Enum(i, s) => Value::Enum(*i, s.clone()),
         AvroValue::Fixed(size, b) => {
