@@ -1,5 +1,6 @@
 /* Brings finishes to the sheet's reader schema, a record of four fields, and prints what the sheet
- * gets: a boat, a race, an elapsed time or none, and a rating, 1000 where the club sends none.
+ * gets: a boat, a race, an elapsed time or none, and a rating, 1000 where the club sends none. A boat
+ * that did not finish has no time; a NaN is refused.
  */
 #include "hulmbax.h"
 
@@ -36,6 +37,13 @@ static void put_int(struct frame *f, int32_t number)
 {
     put_byte(f, HULMBAX_KIND_INT);
     put_number(f, (uint32_t)number, 4);
+}
+
+/* A NaN. A double that is a number is written the same way, by its bits. */
+static void put_nan(struct frame *f)
+{
+    put_byte(f, HULMBAX_KIND_DOUBLE);
+    put_number(f, 0x7ff8000000000000u, 8);
 }
 
 static void put_string(struct frame *f, const char *text)
@@ -152,7 +160,8 @@ static void resolve(const struct frame *record)
 
 int main(void)
 {
-    struct frame whole_seconds = {{0}, 0}, no_time = {{0}, 0}, as_text = {{0}, 0}, no_boat = {{0}, 0};
+    struct frame whole_seconds = {{0}, 0}, no_time = {{0}, 0}, not_a_number = {{0}, 0}, as_text = {{0}, 0},
+                 no_boat = {{0}, 0};
 
     put_record(&whole_seconds, 3);
     put_text(&whole_seconds, "race");
@@ -168,6 +177,14 @@ int main(void)
     put_text(&no_time, "race");
     put_int(&no_time, 1);
 
+    put_record(&not_a_number, 3);
+    put_text(&not_a_number, "sail");
+    put_string(&not_a_number, "B 19");
+    put_text(&not_a_number, "race");
+    put_int(&not_a_number, 1);
+    put_text(&not_a_number, "elapsed");
+    put_nan(&not_a_number);
+
     put_record(&as_text, 3);
     put_text(&as_text, "sail");
     put_string(&as_text, "C 3");
@@ -182,6 +199,7 @@ int main(void)
 
     resolve(&whole_seconds);
     resolve(&no_time);
+    resolve(&not_a_number);
     resolve(&as_text);
     resolve(&no_boat);
     return 0;

@@ -69,10 +69,10 @@ enum hulmbax_kind {
 };
 
 /* What stops a record, a list of finishes, or what is asked of the calendar. An entry answers the number
- * below zero. The numbers are those of docs/RULES.md: 1 to 18, 23, 24, 26 and 27. hulmbax_resolve gives 1
- * to 18, in their checking order; of a map's failing entries the first by its key gives the number.
- * hulmbax_current gives 1, 23, 24 and 18, in this order. The entries of the calendar give 5, 6, 18, 26 and
- * 27; each says which, and in what order. */
+ * below zero. The numbers are those of docs/RULES.md: 1 to 18, 23, 24 and 26 to 28. hulmbax_resolve gives 1
+ * to 18, in their checking order, and 28 in the place of 6; of a map's failing entries the first by its key
+ * gives the number. hulmbax_current gives 1, 23, 24 and 18, in this order. The entries of the calendar give
+ * 5, 6, 18, 26 and 27; each says which, and in what order. */
 enum hulmbax_refusal {
     HULMBAX_WORKSPACE_TOO_SHORT = 1,      /* the workspace is shorter than 65,536 bytes */
     HULMBAX_SCHEMA_NO_FRAME = 2,          /* the schema is no frame */
@@ -95,7 +95,8 @@ enum hulmbax_refusal {
     HULMBAX_TOO_MANY_FRAMES = 23,         /* the list has more than 256 frames */
     HULMBAX_NO_FINISH = 24,               /* one of the list is no frame, no record, or lacks its sail or seq */
     HULMBAX_MILLIS_ON_DATE = 26,          /* milliseconds other than zero are added to a Date */
-    HULMBAX_OUTSIDE_CALENDAR = 27         /* the day isn't in the calendar, or a result leaves its kind's range */
+    HULMBAX_OUTSIDE_CALENDAR = 27,        /* the day isn't in the calendar, or a result leaves its kind's range */
+    HULMBAX_NOT_A_NUMBER = 28             /* a Float or Double, kept or made, would be a NaN; in the place of 6 */
 };
 
 /* A sentence for a refusal, to be shown to whoever sent the record or wrote the schema. Takes the
@@ -148,6 +149,8 @@ static inline const char *hulmbax_refusal_text(int32_t refusal)
         return "a duration with milliseconds is added to a date, which has whole days only";
     case HULMBAX_OUTSIDE_CALENDAR:
         return "the day isn't in the calendar, or the outcome, or a step on the way to it, is outside the range of its kind";
+    case HULMBAX_NOT_A_NUMBER:
+        return "a NaN, or the text NaN, stands where the schema asks for a Float or a Double, and no result holds a NaN";
     default:
         return "there is no refusal of this number";
     }
@@ -156,8 +159,8 @@ static inline const char *hulmbax_refusal_text(int32_t refusal)
 /* Brings the record to the schema, both frames.
  *
  * Answers n, at least 1: the record is accepted, and the first n bytes of result are the frame of
- * what the reader gets; the bytes after them are as they were. Or answers -k: the record is stopped
- * by k of the list above, and result is as it was.
+ * what the reader gets, in which no Float and no Double is a NaN; the bytes after them are as they
+ * were. Or answers -k: the record is stopped by k of the list above, and result is as it was.
  *
  * The workspace must have HULMBAX_WORKSPACE_LEN bytes. Except after -1 the first 65,536 of them are
  * zero after the call; the others, and all of them after -1, are as they were. What they held before

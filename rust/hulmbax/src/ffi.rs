@@ -20,8 +20,9 @@ pub const SUM_LEN: usize = 9;
 
 /// Brings the record to the schema, both frames.
 ///
-/// `Ok(n)`: the first n bytes of `result` are the frame of what the reader gets, and the bytes
-/// after them are as they were. A buffer of [`RESULT_LEN`] bytes is always long enough.
+/// `Ok(n)`: the first n bytes of `result` are the frame of what the reader gets, in which no Float
+/// and no Double is a NaN, and the bytes after them are as they were. A buffer of [`RESULT_LEN`]
+/// bytes is always long enough.
 ///
 /// The workspace must have [`WORKSPACE_LEN`] bytes. These are zero after the call, whatever it
 /// answers, and the bytes after them are as they were.
@@ -318,7 +319,7 @@ mod tests {
 
     #[test]
     fn nothing_else_is_taken_for_an_answer() {
-        for answer in [0, 6, i32::MAX, -19, -22, -25, -28, -257, i32::MIN] {
+        for answer in [0, 6, i32::MAX, -19, -22, -25, -29, -257, i32::MIN] {
             let taken = std::panic::catch_unwind(|| number(answer, 1..=5));
             assert!(taken.is_err(), "{answer}");
         }

@@ -54,7 +54,24 @@ impl Reader {
     }
 
     /// Brings the record to the schema, as apache-avro's `Value::resolve_with_names` does with no
-    /// names.
+    /// names, but for what docs/DIFFERENCES.md lists.
+    ///
+    /// No Float and no Double of the result is a NaN, at any depth. apache-avro keeps a NaN,
+    /// converts it, and makes one of the text `NaN`; here each of these is refused with
+    /// [`Refusal::NotANumber`]. Infinities pass. Where a variant of a union is tried and refuses a
+    /// NaN, the later ones are tried.
+    ///
+    /// ```
+    /// use hulmbax::{Reader, Refusal, Schema, Value};
+    ///
+    /// let mut reader = Reader::new(&Schema::Double)?;
+    /// for nan in [Value::Double(f64::NAN), Value::Float(f32::NAN), Value::from("NaN")] {
+    ///     let error = reader.resolve(&nan).unwrap_err();
+    ///     assert_eq!(error.refusal(), Some(Refusal::NotANumber));
+    /// }
+    /// assert_eq!(reader.resolve(&Value::from("INF"))?, Value::Double(f64::INFINITY));
+    /// # Ok::<(), hulmbax::Error>(())
+    /// ```
     ///
     /// # Errors
     ///
@@ -123,7 +140,8 @@ impl Schema {
     /// finds nothing unsound in it.
     ///
     /// A Decimal whose scale or size doesn't suit its precision passes, as it does in apache-avro:
-    /// a record that meets it is refused.
+    /// a record that meets it is refused. So does a default that its field's schema refuses, the
+    /// text `NaN` for a Double, say: a record that lacks the field is refused.
     ///
     /// # Errors
     ///

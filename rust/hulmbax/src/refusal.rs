@@ -28,9 +28,9 @@ macro_rules! refusals {
         /// calendar doesn't take.
         ///
         /// The numbers are those of docs/RULES.md. A record gets 1 to 18, which the library
-        /// looks for in their order; of a map's failing entries the first by its key gives the
-        /// refusal. A list of finishes gets 1, 23, 24 and 18, in this order. The calendar gives
-        /// 5, 6, 26, 27 and 18, in this order.
+        /// looks for in their order, and 28, in the place of 6; of a map's failing entries the
+        /// first by its key gives the refusal. A list of finishes gets 1, 23, 24 and 18, in this
+        /// order. The calendar gives 5, 6, 26, 27 and 18, in this order.
         #[derive(Clone, Copy, Debug, PartialEq, Eq, PartialOrd, Ord, Hash)]
         #[repr(u8)]
         #[non_exhaustive]
@@ -125,6 +125,10 @@ refusals! {
     /// 27: the day isn't in the calendar; or the outcome, or a step on the way to it, leaves the
     /// kind's range.
     OutsideCalendar = 27, Calendar, "the day isn't in the calendar, or the outcome, or a step on the way to it, is outside the range of its kind";
+
+    /// 28: a Float or a Double, kept or made of another kind or of the text `NaN`, would be a NaN.
+    /// It is looked for in the place of 6.
+    NotANumber = 28, Content, "a NaN, or the text NaN, stands where the schema asks for a Float or a Double, and no result holds a NaN";
 }
 
 impl Refusal {
@@ -174,9 +178,10 @@ impl std::error::Error for Refusal {}
 mod tests {
     use super::*;
 
-    // Those of records, those of a list of finishes, and those of the calendar.
+    // 1 to 18 and 28 are those of records, 23 and 24 those of a list of finishes, 26 and 27 those
+    // of the calendar.
     fn numbers() -> Vec<u8> {
-        (1..=18).chain([23, 24]).chain([26, 27]).collect()
+        (1..=18).chain([23, 24]).chain(26..=28).collect()
     }
 
     #[test]

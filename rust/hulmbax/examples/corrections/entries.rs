@@ -57,15 +57,17 @@ pub fn entries() -> Vec<Value> {
         entry("A 12", 2, 1000.0, seconds(3591.0)),
         // retired, and was timed all the same
         entry("B 7", 1, 1010.0, none()),
-        // was taken for retired
+        // was taken for retired: its first finish was NaN, which the sheet of the series refused
         entry("B 19", 1, 1043.5, seconds(3702.5)),
-        // the sheet doesn't take a text, so nothing is entered
-        entry("C 8", 1, 985.0, text("1:00:40")),
+        // retired: its first finish was the text NaN, which was refused too; none is taken
+        entry("C 8", 1, 985.0, none()),
         // the seq was not raised, and the later one counts
         entry("A 31", 0, 1000.0, seconds(3700.0)),
         // the second correction comes in before the first
         entry("C 5", 2, 985.0, seconds(3640.0)),
         entry("C 5", 1, 985.0, seconds(3645.0)),
+        // the sheet doesn't take a text, so nothing is entered
+        entry("C 5", 3, 985.0, text("1:00:40")),
         // its first finish was a text, which the sheet of the series didn't take
         entry("C 3", 1, 985.0, seconds(3725.0)),
     ]

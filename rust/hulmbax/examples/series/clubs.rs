@@ -63,7 +63,8 @@ fn brightlee() -> Result<Club, Error> {
     Ok(Club {
         name: "Brightlee",
         habit: "Times parts of a second. A boat that did not start has none; a boat that retired \
-                has NaN. Also sends the wind, which the sheet does not ask for.",
+                has NaN, which can't be ranked: the sheet refuses it, and the race officer asks \
+                again. Also sends the wind, which the sheet does not ask for.",
         schema: Schema::record(vec![
             RecordField::new("race", Schema::Long),
             RecordField::new("sail", Schema::String),

@@ -96,6 +96,27 @@ mod tests {
     }
 
     #[test]
+    fn a_nan_is_pending_and_the_sheet_says_why() {
+        let sheet = sheet_of(&[
+            ("A", 1, 60.into()),
+            ("B", 1, f64::NAN.into()),
+            ("C", 1, "NaN".into()),
+            ("D", 1, "INF".into()),
+        ]);
+        assert!(sheet.starts_with("Race 1, corrected times, 2 pending\n   1  A     60.00 s\n"));
+        let below = "   5  D     no finish\n   -  B     pending\n   -  C     pending\n";
+        assert!(sheet.contains(below), "{sheet}");
+        let (_, pending) = sheet.split_once("Pending\n").unwrap();
+        let lines: Vec<&str> = pending.lines().collect();
+        let [double, text] = lines[..] else {
+            panic!("{sheet}");
+        };
+        assert!(double.starts_with("  B, race 1; line 3: elapsed: a NaN"));
+        assert!(text.starts_with("  C, race 1; line 4: elapsed: no variant"));
+        assert!(double.ends_with("(refusal 28)") && text.ends_with("(refusal 28)"));
+    }
+
+    #[test]
     fn a_record_that_was_accepted_counts_whatever_else_was_sent() {
         let sheet = sheet_of(&[("A", 1, "soon".into()), ("A", 1, 60.into())]);
         assert!(sheet.contains("   1  A     60.00 s\n"), "{sheet}");

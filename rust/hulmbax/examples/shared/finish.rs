@@ -2,7 +2,7 @@
 
 use super::line::Line;
 use super::Any;
-use hulmbax::{Reader, RecordField, Schema, Value};
+use hulmbax::{Error, Reader, RecordField, Schema, Value};
 
 /// A finish as the reader schema gives it.
 pub struct Finish {
@@ -24,8 +24,9 @@ impl Finish {
     }
 
     /// The corrected time of a boat that finished: that has an elapsed time from which a number
-    /// comes out. None, NaN and infinity give no place. NaN must not reach the comparison of times,
-    /// where nothing is less or greater.
+    /// comes out. None and infinity give no place. An accepted record holds no NaN, but infinity by
+    /// infinity, or zero by zero, makes one here, which must not reach the comparison of times, where
+    /// nothing is less or greater.
     pub fn corrected(&self) -> Option<f64> {
         let corrected = self.elapsed? * 1000.0 / self.rating;
         Some(corrected).filter(|seconds| seconds.is_finite())
@@ -56,12 +57,21 @@ pub fn read<'a>(lines: impl IntoIterator<Item = &'a Line>) -> Any<(Vec<Finish>, 
                 pending.push(Pending {
                     sail: told("sail").and_then(Value::as_str).map(str::to_string),
                     race: told("race").and_then(Value::as_i32),
-                    why: format!("line {}: {error}", line.number),
+                    why: format!("line {}: {}", line.number, reason(error)),
                 });
             }
         }
     }
     Ok((finishes, pending))
+}
+
+// The error and, if it has one, its cause: of a text that stands for a time the error says only that
+// no variant takes it, and the cause whether it would be a NaN.
+fn reason(error: &Error) -> String {
+    match error.root_cause() {
+        cause if cause == error => error.to_string(),
+        cause => format!("{error}: {cause}"),
+    }
 }
 
 // Whose record it is, and of which race, can be told of most records that the sheet refuses.
@@ -73,4 +83,29 @@ fn whose_schema() -> Any<Schema> {
         optional("sail", Schema::String)?,
         optional("race", Schema::Int)?,
     ]))
+}
+
+#[cfg(test)]
+mod tests {
+    use super::*;
+
+    #[test]
+    fn what_is_no_number_gives_no_place() {
+        let corrected = |elapsed, rating| {
+            let (sail, race) = (String::new(), 1);
+            let finish = Finish {
+                sail,
+                race,
+                elapsed,
+                rating,
+            };
+            finish.corrected()
+        };
+        assert_eq!(corrected(Some(60.0), 1250.0), Some(48.0));
+        assert_eq!(corrected(None, 1250.0), None);
+        let infinity = f64::INFINITY;
+        for (elapsed, rating) in [(infinity, 1250.0), (infinity, infinity), (0.0, 0.0)] {
+            assert_eq!(corrected(Some(elapsed), rating), None);
+        }
+    }
 }

@@ -16,7 +16,9 @@ use std::collections::BTreeMap;
 /// A value.
 ///
 /// A Float and a Double keep all their bits in a frame, a NaN's too. As everywhere in Rust, NaN is
-/// not equal to itself; to compare bits, compare frames.
+/// not equal to itself; to compare bits, compare frames. No result of a [`Reader`](crate::Reader)
+/// holds a NaN: it refuses one with [`Refusal::NotANumber`](crate::Refusal::NotANumber), where
+/// apache-avro hands it on.
 ///
 /// The common types of Rust turn into values by [`From`], an [`Option`] into a Union of Null and
 /// another as [`Schema::nullable`](crate::Schema::nullable) has it. A value is shown in words.

@@ -1,7 +1,7 @@
 // What several tests share: frames as hexadecimal, one call on them, and short names for parts.
 use hulmbax::frame::{resolve, RESULT_LEN, WORKSPACE_LEN};
 use hulmbax::schema::{DecimalSchema, EnumSchema, FixedSchema, InnerDecimalSchema};
-use hulmbax::{hex, RecordField, Refusal, Schema};
+use hulmbax::{hex, RecordField, Refusal, Schema, Value};
 
 /// The bytes of a hexadecimal literal.
 pub fn bytes(digits: &str) -> Vec<u8> {
@@ -21,6 +21,19 @@ pub fn line(answer: Result<Vec<u8>, Refusal>) -> String {
     match answer {
         Ok(result) => format!("+ {}", hex::encode(&result)),
         Err(refusal) => format!("- {}", refusal.number()),
+    }
+}
+
+/// Whether a NaN stands anywhere in the value.
+pub fn holds_nan(value: &Value) -> bool {
+    match value {
+        Value::Float(x) => x.is_nan(),
+        Value::Double(x) => x.is_nan(),
+        Value::Union(_, inner) => holds_nan(inner),
+        Value::Array(items) => items.iter().any(holds_nan),
+        Value::Map(entries) => entries.values().any(holds_nan),
+        Value::Record(fields) => fields.iter().any(|(_, value)| holds_nan(value)),
+        _ => false,
     }
 }
 

@@ -4,13 +4,13 @@ use hulmbax::schema::InnerDecimalSchema;
 use hulmbax::{Refusal, Schema, Value};
 
 /// A schema, a record and the answer's line.
-const FINISHES: [(&str, &str, &str); 26] = [
+const FINISHES: [(&str, &str, &str); 40] = [
     ("02", "03000000007fffffff", "+ 027fffffff"),
     ("02", "030000000080000000", "- 7"),
     ("04", "0201000001", "+ 044b800000"),
     ("04", "0201000003", "+ 044b800002"),
     ("05", "030020000000000001", "+ 054340000000000000"),
-    ("05", "0700034e614e", "+ 057ff8000000000000"),
+    ("05", "0700034e614e", "- 28"),
     ("0d0004", "0700026162", "- 10"),
     ("0d0004", "0600026162", "- 10"),
     (NULLABLE_DOUBLE, "00", "+ 0a0000000000"),
@@ -71,6 +71,36 @@ const FINISHES: [(&str, &str, &str); 26] = [
         "0700026162",
         "+ 0a000000010700026162",
     ),
+    ("05", "057ff0000000000001", "- 28"),
+    ("05", "047fc00001", "- 28"),
+    ("04", "05fff8000000000000", "- 28"),
+    ("04", "057ff0000000000000", "+ 047f800000"),
+    ("05", "070003494e46", "+ 057ff0000000000000"),
+    (NULLABLE_DOUBLE, "057ff8000000000000", "- 28"),
+    (NULLABLE_DOUBLE, "0700034e614e", "- 16"),
+    (NULLABLE_DOUBLE, "047fc00000", "- 16"),
+    (
+        "0a0002050700000000",
+        "0700034e614e",
+        "+ 0a000000010700034e614e",
+    ),
+    ("0805", "080002053ff0000000000000057ff8000000000000", "- 28"),
+    (
+        "0b00010001610002",
+        "0b00020001610200000001000162057ff8000000000000",
+        "+ 0b00010001610200000001",
+    ),
+    ("0b0001000161010700034e614e05", "0b0000", "- 28"),
+    (
+        "0b0001000161010700034e614e05",
+        "0b0001000161053ff0000000000000",
+        "+ 0b0001000161053ff0000000000000",
+    ),
+    (
+        "0b0001000161010700034e614e0a0002050700020500000700010000",
+        "0b0000",
+        "- 28",
+    ),
 ];
 
 const NULLABLE_DOUBLE: &str = "0a0002000500020000000500010000";
@@ -94,6 +124,12 @@ fn the_same_finishes_from_rust_values() {
     assert_eq!(refused(&Schema::Int, more), Some(Refusal::LongOutsideInt));
     assert_eq!(Value::Int(5).resolve(&elapsed), Ok(Some(5.0).into()));
     assert_eq!(Value::Null.resolve(&elapsed), Ok(None::<f64>.into()));
+    let text = Value::from("NaN");
+    let no_number = Some(Refusal::NotANumber);
+    assert_eq!(refused(&Schema::Double, text.clone()), no_number);
+    assert_eq!(refused(&elapsed, f64::NAN.into()), no_number);
+    assert_eq!(refused(&elapsed, text), Some(Refusal::NoVariant));
+    assert_eq!(refused(&elapsed, f32::NAN.into()), Some(Refusal::NoVariant));
 }
 
 #[test]

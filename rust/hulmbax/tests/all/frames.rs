@@ -132,19 +132,6 @@ fn every_cut_frame_is_short_and_every_longer_one_has_a_rest() {
 }
 
 #[test]
-fn a_nan_keeps_its_bits() {
-    for digits in [
-        "057ff8000000000123",
-        "05fff0000000000001",
-        "047fc00001",
-        "04ff800001",
-    ] {
-        let value = Value::from_frame(&bytes(digits)).unwrap();
-        assert_eq!(value.to_frame(), Ok(bytes(digits)));
-    }
-}
-
-#[test]
 fn what_is_no_frame_of_a_value() {
     let broken = [
         ("1a", FrameError::Kind(0x1a)),

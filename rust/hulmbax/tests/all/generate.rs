@@ -45,7 +45,7 @@ impl Generator {
         n >> self.below(64)
     }
 
-    // A float that is no NaN.
+    // A float that is no NaN, so that it fits.
     fn double(&mut self) -> f64 {
         let x = f64::from_bits(self.next());
         if x.is_nan() {
@@ -61,6 +61,16 @@ impl Generator {
             0.5
         } else {
             x
+        }
+    }
+
+    // A NaN of either kind and sign, quiet or signalling: the last bit is set, so whatever the
+    // others are, it is no infinity.
+    fn nan(&mut self) -> Value {
+        let bits = self.next();
+        match self.below(2) {
+            0 => Value::Float(f32::from_bits(bits as u32 | 0x7f80_0001)),
+            _ => Value::Double(f64::from_bits(bits | 0x7ff0_0000_0000_0001)),
         }
     }
 
@@ -146,7 +156,7 @@ impl Generator {
         self.value(schema, 0)
     }
 
-    /// A value that fits the schema but for some parts.
+    /// A value that fits the schema but for some parts, of which some are NaNs.
     pub fn near(&mut self, schema: &Schema) -> Value {
         self.value(schema, 12)
     }
@@ -157,10 +167,22 @@ impl Generator {
         self.fitting(&schema)
     }
 
+    // A NaN, mostly where a float is asked for, or a value of a schema of its own.
+    fn odd(&mut self, schema: &Schema) -> Value {
+        let nans = match schema {
+            Schema::Float | Schema::Double => 3,
+            _ => 1,
+        };
+        match self.below(4) < nans {
+            true => self.nan(),
+            false => self.any(),
+        }
+    }
+
     // A part doesn't fit `odd` times of a hundred.
     fn value(&mut self, schema: &Schema, odd: u64) -> Value {
         if self.below(100) < odd {
-            return self.any();
+            return self.odd(schema);
         }
         let long = self.long();
         match schema {

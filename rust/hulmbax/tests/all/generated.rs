@@ -1,5 +1,5 @@
 // What holds of every schema and value, over many that are made by chance.
-use crate::common::resolved;
+use crate::common::{holds_nan, resolved};
 use crate::generate::Generator;
 use hulmbax::path::{Path, Step};
 use hulmbax::schema::RecordField;
@@ -35,10 +35,18 @@ fn every_schema_goes_to_a_frame_and_back() {
 
 #[test]
 fn every_value_goes_to_a_frame_and_back() {
+    let mut nans = 0;
     each(2, Generator::near, |_, value| {
         let frame = value.to_frame().unwrap();
-        assert_eq!(Value::from_frame(&frame).as_ref(), Ok(value));
+        let back = Value::from_frame(&frame).unwrap();
+        // a NaN isn't equal to itself, and its frame is
+        match holds_nan(value) {
+            true => nans += 1,
+            false => assert_eq!(&back, value),
+        }
+        assert_eq!(back.to_frame(), Ok(frame));
     });
+    assert!(nans > 100, "{nans}");
 }
 
 #[test]
@@ -83,6 +91,24 @@ fn a_reader_answers_what_the_library_answers() {
         }
     });
     assert!(accepted > 1_000 && refused > 1_000, "{accepted} {refused}");
+}
+
+#[test]
+fn no_accepted_result_holds_a_nan() {
+    let (mut accepted, mut refused) = (0, 0);
+    each(7, Generator::near, |reader, value| {
+        match reader.resolve(value) {
+            Ok(got) => {
+                accepted += 1;
+                assert!(!holds_nan(&got), "{}, {value}: {got}", reader.schema());
+            }
+            Err(error) => {
+                let cause = error.root_cause().refusal();
+                refused += usize::from(cause == Some(Refusal::NotANumber));
+            }
+        }
+    });
+    assert!(accepted > 1_000 && refused > 30, "{accepted} {refused}");
 }
 
 // The parts of schema and value that a path leads to are refused for the same reason by themselves.

@@ -10,6 +10,7 @@ mod frames;
 mod generate;
 mod generated;
 mod header;
+mod nans;
 mod paths;
 mod reader;
 mod refusals;

@@ -166,6 +166,7 @@ fn at_the_root() {
 fn each_kind_of_leaf() {
     let leaves = [
         (Schema::Int, Value::Long(i64::MIN), Refusal::LongOutsideInt),
+        (Schema::Float, Value::from(f64::NAN), Refusal::NotANumber),
         (Schema::String, Value::from(vec![0xff_u8]), Refusal::NotUtf8),
         (
             Schema::Uuid(UuidSchema::String),

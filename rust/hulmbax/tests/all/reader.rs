@@ -67,14 +67,6 @@ fn a_record_without_a_frame_is_not_sent() {
 }
 
 #[test]
-fn a_nan_keeps_its_bits() {
-    let mut reader = Reader::new(&Schema::Double).unwrap();
-    let nan = f64::from_bits(0x7ff8_0000_0000_0123);
-    let got = reader.resolve(&nan.into()).unwrap().as_f64().unwrap();
-    assert_eq!(got.to_bits(), nan.to_bits());
-}
-
-#[test]
 fn a_reader_and_its_errors_go_to_other_threads() {
     fn is_send_and_sync<T: Send + Sync + 'static>() {}
     is_send_and_sync::<Reader>();

@@ -155,3 +155,13 @@ fn refusal_18_result_too_long() {
     let longs = Schema::array(Schema::Long);
     assert_eq!(refused(&longs, items), Refusal::ResultTooLong);
 }
+
+#[test]
+fn refusal_28_not_a_number() {
+    let nans: [Value; 3] = [f32::NAN.into(), f64::NAN.into(), "NaN".into()];
+    for schema in [Schema::Float, Schema::Double] {
+        for nan in &nans {
+            assert_eq!(refused(&schema, nan.clone()), Refusal::NotANumber);
+        }
+    }
+}

@@ -1,6 +1,6 @@
 // The recorded answers of apache-avro with the rules of the requests put in, from Rust: each frame is read and written again, and each
 // record is resolved.
-use crate::common::{bytes, line, resolved};
+use crate::common::{bytes, holds_nan, line, resolved};
 use hulmbax::{Reader, Schema, Value};
 
 const RECORDED: &str = concat!(env!("CARGO_MANIFEST_DIR"), "/../../crates/vectors/stdin");
@@ -102,11 +102,12 @@ fn every_record_is_read_and_written_again() {
 }
 
 #[test]
-fn every_result_is_read_and_written_again() {
+fn every_result_is_read_and_written_again_and_holds_no_nan() {
     for v in vectors() {
         if let Some(digits) = v.answer.strip_prefix("+ ") {
             let value = Value::from_frame(&bytes(digits)).unwrap();
             assert_eq!(value.to_frame(), Ok(bytes(digits)));
+            assert!(!holds_nan(&value), "{:02x?}: {value}", v.schema);
         }
     }
 }
