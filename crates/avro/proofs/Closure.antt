@@ -53,6 +53,25 @@ AtVariant P noVariants i r = ⊥
 AtVariant P (variant s vs) zero r = P s r
 AtVariant P (variant s vs) (suc i) r = AtVariant P vs i r
 
+-- what is claimed of each part whatever it was made of and under whatever schema
+module _ (P : Value → Type 0) where
+  pub entries-each : (es rs : Entries) → EntriesMade P es rs → AllEntries P rs
+  entries-each noEntries noEntries m = tt
+  entries-each noEntries (entry n r rs) m = absurd m
+  entries-each (entry n v es) noEntries m = absurd m
+  entries-each (entry n v es) (entry n' r rs) m = (m .1, entries-each es rs (m .2))
+
+  pub fields-each : (fs : Fields) (rs : Entries) → FieldsMade (λ _. P) fs rs → AllEntries P rs
+  fields-each noFields noEntries m = tt
+  fields-each noFields (entry n r rs) m = absurd m
+  fields-each (field n d s fs) noEntries m = absurd m
+  fields-each (field n d s fs) (entry n' r rs) m = (m .1, fields-each fs rs (m .2))
+
+  pub variant-each : (vs : Variants) (i : ℕ) (r : Value) → AtVariant (λ _. P) vs i r → P r
+  variant-each noVariants i r m = absurd m
+  variant-each (variant s vs) zero r m = m
+  variant-each (variant s vs) (suc i) r m = variant-each vs i r m
+
 -- ---- arrays and maps
 
 module _ (P Q : Value → Type 0) (f : Value → Outcome) (c : (v : Value) → P v → Ends Q (f v)) where

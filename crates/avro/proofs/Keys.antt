@@ -1,5 +1,5 @@
 -- Where map keys rise in a value and in a sound schema's defaults, they rise in what resolution makes.
-use Prim.Native.Nat.{ℕ, zero, suc}
+use Prim.Native.Nat.{ℕ}
 use mathlib.Core.Path.{_≡_, refl, subst}
 use mathlib.Core.List.{List}
 use mathlib.Core.Option.{Option, none, some, orElse}
@@ -17,15 +17,18 @@ use Rattle.frame.proofs.Inside.{peel-keys, items-keys, entries-keys, map-rising
 use Rattle.avro.specs.Resolve.{lastUnder, resolve}
 use Rattle.avro.proofs.Ends.{ends-map, ends-okay}
 use Rattle.avro.proofs.SchemaCases.{EveryVariant}
-use Rattle.avro.proofs.Closure.{AllItems, AllEntries, ItemsMade, EntriesMade, FieldsMade, AtVariant, InFields, First, comes}
+use Rattle.avro.proofs.Closure.{AllItems, AllEntries, ItemsMade, EntriesMade, FieldsMade, AtVariant, entries-each, fields-each, variant-each, InFields, First, comes}
 use Rattle.avro.proofs.Made.{Made, made}
 
 record In (s : Schema) (v : Value) : Type 0 where
   sound : T (schemaSound s)
   keys : T (keysRise v)
 
+abbrev Rising : Value → Type 0
+Rising v = T (keysRise v)
+
 abbrev Out : Schema → Value → Type 0
-Out s r = T (keysRise r)
+Out s r = Rising r
 
 -- ---- arrays and maps
 
@@ -39,17 +42,15 @@ unfolding keysRise
 entries-in s z noEntries k = tt
 entries-in s z (entry n v es) k = (record { sound = z; keys = and-l (keysRise v) (entryKeysRise es) k }, entries-in s z es (and-r (keysRise v) (entryKeysRise es) k))
 
-items-out : (s : Schema) (rs : Values) → AllItems (Out s) rs → T (itemKeysRise rs)
+items-out : (rs : Values) → AllItems Rising rs → T (itemKeysRise rs)
 unfolding keysRise
-items-out s noItems a = tt
-items-out s (item r rs) a = and-i (keysRise r) (itemKeysRise rs) (a .0) (items-out s rs (a .1))
+items-out noItems a = tt
+items-out (item r rs) a = and-i (keysRise r) (itemKeysRise rs) (a .0) (items-out rs (a .1))
 
-entries-out : (s : Schema) (es rs : Entries) → EntriesMade (Out s) es rs → T (entryKeysRise rs)
+entries-out : (rs : Entries) → AllEntries Rising rs → T (entryKeysRise rs)
 unfolding keysRise
-entries-out s noEntries noEntries m = tt
-entries-out s noEntries (entry n r rs) m = absurd m
-entries-out s (entry n v es) noEntries m = absurd m
-entries-out s (entry n v es) (entry n' r rs) m = and-i (keysRise r) (entryKeysRise rs) (m .1) (entries-out s es rs (m .2))
+entries-out noEntries a = tt
+entries-out (entry n r rs) a = and-i (keysRise r) (entryKeysRise rs) (a .0) (entries-out rs (a .1))
 
 -- the keys stay
 past-stays : (s : Schema) (k : Text) (es rs : Entries) → EntriesMade (Out s) es rs → pastKey k rs ≡ pastKey k es
@@ -72,7 +73,7 @@ array-in s v p = items-in s (p .sound) (items (peel v)) (items-keys (peel v) (pe
 
 array-out : (s : Schema) (vs rs : Values) → ItemsMade (Out s) vs rs → Out (Schema.Array s) (Value.Array rs)
 unfolding keysRise
-array-out s vs rs m = items-out s rs (m .each)
+array-out s vs rs m = items-out rs (m .each)
 
 map-in : (s : Schema) (v : Value) → In (Schema.Map s) v → AllEntries (In s) (entries (peel v))
 unfolding schemaSound
@@ -81,12 +82,9 @@ map-in s v p = entries-in s (p .sound) (entries (peel v)) (entries-keys (peel v)
 map-out : (s : Schema) (v : Value) → In (Schema.Map s) v → T (is Kind.Map (peel v)) → (rs : Entries) → EntriesMade (Out s) (entries (peel v)) rs → Out (Schema.Map s) (Value.Map rs)
 unfolding keysRise
 map-out s v p t rs m =
-    and-i (rising rs) (entryKeysRise rs) (rw (rising-stays s (entries (peel v)) rs m) (map-rising (peel v) t (peel-keys v (p .keys)))) (entries-out s (entries (peel v)) rs m)
+    and-i (rising rs) (entryKeysRise rs) (rw (rising-stays s (entries (peel v)) rs m) (map-rising (peel v) t (peel-keys v (p .keys)))) (entries-out rs (entries-each Rising (entries (peel v)) rs m))
 
 -- ---- records
-
-abbrev Rising : Value → Type 0
-Rising v = T (keysRise v)
 
 keys-lastUnder : (n : Text) (es : Entries) → T (entryKeysRise es) → Found Rising (lastUnder n es)
 unfolding keysRise lastUnder orElse
@@ -117,16 +115,9 @@ record-in : (fs : Fields) (v : Value) → In (Schema.Record fs) v → InFields I
 unfolding schemaSound
 record-in fs v p = fields-in fs (p .sound) (entries (peel v)) (entries-keys (peel v) (peel-keys v (p .keys)))
 
-fields-out : (fs : Fields) (rs : Entries) → FieldsMade Out fs rs → T (entryKeysRise rs)
-unfolding keysRise
-fields-out noFields noEntries m = tt
-fields-out noFields (entry n r rs) m = absurd m
-fields-out (field n d s fs) noEntries m = absurd m
-fields-out (field n d s fs) (entry n' r rs) m = and-i (keysRise r) (entryKeysRise rs) (m .1) (fields-out fs rs (m .2))
-
 record-out : (fs : Fields) (rs : Entries) → FieldsMade Out fs rs → Out (Schema.Record fs) (Value.Record rs)
 unfolding keysRise
-record-out fs rs m = fields-out fs rs m
+record-out fs rs m = entries-out rs (fields-each Rising fs rs m)
 
 -- ---- unions
 
@@ -134,18 +125,13 @@ variants-in : (vs : Variants) → T (variantsSound vs) → (w : Value) → T (ke
 variants-in noVariants z w k = tt
 variants-in (variant s vs) z w k = let f = sound-variant s vs z in (record { sound = f .schema; keys = k }, variants-in vs (f .rest) w k)
 
-variant-out : (vs : Variants) (i : ℕ) (r : Value) → AtVariant Out vs i r → T (keysRise r)
-variant-out noVariants i r m = absurd m
-variant-out (variant s vs) zero r m = m
-variant-out (variant s vs) (suc i) r m = variant-out vs i r m
-
 module _ (vs : Variants) (ks : List (ℕ × ℕ)) (ns : List ℕ) where
   union-in : (v : Value) → In (Schema.Union vs ks ns) v → (w : Value) → T (keysRise w) → EveryVariant (λ s. In s w) vs
   union-in v p w k = variants-in vs (sound-union vs ks ns (p .sound) .variants) w k
 
   union-out : (i : ℕ) (r : Value) → AtVariant Out vs i r → Out (Schema.Union vs ks ns) (Value.Union i r)
   unfolding keysRise
-  union-out i r m = variant-out vs i r m
+  union-out i r m = variant-each Rising vs i r m
 
   first-of : (u : Schema) → T (schemaSound u) → (us : Variants) (d : Value) → EveryVariant (λ s. In s d) us → First In Out u us d
   unfolding keysRise

@@ -1,5 +1,5 @@
 -- Q-10: no result holds a NaN, whatever schema and value are; a Float and a Double refuse with 28 what is no number, and nothing else; infinities pass.
-use Prim.Native.Nat.{ℕ, zero, suc}
+use Prim.Native.Nat.{ℕ}
 use mathlib.Core.Path.{_≡_, refl, sym, ap, _∙_, subst}
 use mathlib.Core.Logic.{_⊎_, inl, inr}
 use mathlib.Core.Option.{Option, none, some}
@@ -15,51 +15,37 @@ use Rattle.rounding.specs.Rounding.{infinity, signed, convertMagnitude, convert
 use Rattle.scalar.specs.Conversion.{floatOfInt, floatOfLong, floatOfDouble, doubleOfInt, doubleOfLong, doubleOfFloat, floatNan, doubleNan, parse-special-float}
 use Rattle.scalar.proofs.Nans
 use Rattle.frame.specs.Kind
-use Rattle.frame.specs.Tree.{Value, Values, Entries, Schema, Fields, Variants, noItems, item, noEntries, entry, noFields, field, noVariants, variant, kindOf, is, number, octets, peel}
+use Rattle.frame.specs.Tree.{Value, Values, Entries, Schema, noItems, item, noEntries, entry, kindOf, is, number, octets, peel}
 use Rattle.types.specs.Types.{Outcome, floatOfBits, doubleOfBits, special, resolvePlain, resolve-float, resolve-double}
 use Rattle.avro.specs.Resolve.{resolve}
 use Rattle.avro.specs.Nans.{noNan, itemsNoNan, entriesNoNan, NotANumber, float-nan, double-nan, nan-text}
 use Rattle.avro.proofs.Ends.{ends-map, ends-okay}
-use Rattle.avro.proofs.Closure.{AllItems, EntriesMade, FieldsMade, AtVariant, always}
-use Rattle.avro.proofs.Made.{Leaf, scalar, bytes, leaf-is, Made, made}
+use Rattle.avro.proofs.Closure.{AllItems, AllEntries, entries-each, fields-each, variant-each, always}
+use Rattle.avro.proofs.Made.{leafKind, Leaf, scalar, bytes, leaf-is, Made, made}
 
 -- ---- no result holds a NaN
 
-abbrev Out : Schema → Value → Type 0
-Out s r = T (noNan r)
+abbrev NoNan : Value → Type 0
+NoNan r = T (noNan r)
 
-items-out : (s : Schema) (rs : Values) → AllItems (Out s) rs → T (itemsNoNan rs)
+items-out : (rs : Values) → AllItems NoNan rs → T (itemsNoNan rs)
 unfolding noNan
-items-out s noItems a = tt
-items-out s (item r rs) a = and-i (noNan r) (itemsNoNan rs) (a .0) (items-out s rs (a .1))
+items-out noItems a = tt
+items-out (item r rs) a = and-i (noNan r) (itemsNoNan rs) (a .0) (items-out rs (a .1))
 
-entries-out : (s : Schema) (es rs : Entries) → EntriesMade (Out s) es rs → T (entriesNoNan rs)
+entries-out : (rs : Entries) → AllEntries NoNan rs → T (entriesNoNan rs)
 unfolding noNan
-entries-out s noEntries noEntries m = tt
-entries-out s noEntries (entry n r rs) m = absurd m
-entries-out s (entry n v es) noEntries m = absurd m
-entries-out s (entry n v es) (entry n' r rs) m = and-i (noNan r) (entriesNoNan rs) (m .1) (entries-out s es rs (m .2))
+entries-out noEntries a = tt
+entries-out (entry n r rs) a = and-i (noNan r) (entriesNoNan rs) (a .0) (entries-out rs (a .1))
 
-fields-out : (fs : Fields) (rs : Entries) → FieldsMade Out fs rs → T (entriesNoNan rs)
+pub noNan-resolve : (s : Schema) (v : Value) → Okay NoNan (resolve s v)
 unfolding noNan
-fields-out noFields noEntries m = tt
-fields-out noFields (entry n r rs) m = absurd m
-fields-out (field n d s fs) noEntries m = absurd m
-fields-out (field n d s fs) (entry n' r rs) m = and-i (noNan r) (entriesNoNan rs) (m .1) (fields-out fs rs (m .2))
-
-variant-out : (vs : Variants) (i : ℕ) (r : Value) → AtVariant Out vs i r → T (noNan r)
-variant-out noVariants i r m = absurd m
-variant-out (variant s vs) zero r m = m
-variant-out (variant s vs) (suc i) r m = variant-out vs i r m
-
-pub noNan-resolve : (s : Schema) (v : Value) → Okay (λ r. T (noNan r)) (resolve s v)
-unfolding noNan
-noNan-resolve s v = ends-okay (Out s) (resolve s v) (always Out (record {
-  leaf = λ s l v. ends-map (Made s (peel v)) (Out s) (resolve s v) (λ r m. m .no-nan) (made s l v);
-  array = λ s vs rs m. items-out s rs (m .each);
-  map = λ s es rs m. entries-out s es rs m;
-  fields = λ fs rs m. fields-out fs rs m;
-  union = λ vs ks ns i r m. variant-out vs i r m;
+noNan-resolve s v = ends-okay NoNan (resolve s v) (always (λ _. NoNan) (record {
+  leaf = λ s l v. ends-map (Made s (peel v)) NoNan (resolve s v) (λ r m. m .no-nan) (made s l v);
+  array = λ s vs rs m. items-out rs (m .each);
+  map = λ s es rs m. entries-out rs (entries-each NoNan es rs m);
+  fields = λ fs rs m. entries-out rs (fields-each NoNan fs rs m);
+  union = λ vs ks ns i r m. variant-each NoNan vs i r m;
 }) s v)
 
 -- ---- what is no number gives 28
@@ -92,26 +78,25 @@ of-if w false x y f g = g tt
 of-six : (w : Value) → Of28 w (stop 6)
 of-six w e = absurd (omega (arith, e))
 
-no-nan : (n : Bool) (w : Value) → n ≡ false → T n → NotANumber w
-no-nan true w e h = let z : _≡_ {A = ℕ} 0 1 = cc in absurd (omega arith)
-no-nan false w e h = absurd h
+never : (n : Bool) (w : Value) → n ≡ false → T n → NotANumber w
+never true w e h = let z : _≡_ {A = ℕ} 0 1 = cc in absurd (omega arith)
+never false w e h = absurd h
 
 module _ (w : Value) where
-  float-is : T (is Kind.Float w) → T (floatNan (number w)) → NotANumber w
+  -- a Float or a Double, of kind k, whose bits are a NaN's
+  bits-are : (k : ℕ) → T (leafKind k) → (nan : ℕ → Bool) → nan 0 ≡ false → ((b : ℕ) → T (nan b) → NotANumber (Value.Scalar k b)) → T (is k w) → T (nan (number w)) → NotANumber w
   unfolding number
-  float-is t h = go (leaf-is Kind.Float tt w t)
+  bits-are k l nan z f t h = go (leaf-is k l w t)
     where
-      go : Leaf Kind.Float w → NotANumber w
-      go (scalar b q) = rw q (float-nan b (rw q at h))
-      go (bytes b q) = absurd (rw q at h)
+      go : Leaf k w → NotANumber w
+      go (scalar b q) = rw q (f b (rw q at h))
+      go (bytes b q) = never (nan 0) w z (rw q at h)
+
+  float-is : T (is Kind.Float w) → T (floatNan (number w)) → NotANumber w
+  float-is = bits-are Kind.Float tt (λ b. floatNan b) refl float-nan
 
   double-is : T (is Kind.Double w) → T (doubleNan (number w)) → NotANumber w
-  unfolding number
-  double-is t h = go (leaf-is Kind.Double tt w t)
-    where
-      go : Leaf Kind.Double w → NotANumber w
-      go (scalar b q) = rw q (double-nan b (rw q at h))
-      go (bytes b q) = absurd (rw q at h)
+  double-is = bits-are Kind.Double tt (λ b. doubleNan b) refl double-nan
 
   text-is : T (is Kind.String w) → octets w ≡ ascii "NaN" → NotANumber w
   unfolding octets ascii
@@ -121,12 +106,15 @@ module _ (w : Value) where
       go (scalar n q) = let z : _≡_ {A = ℕ} 0 1 = cc in absurd (omega arith)
       go (bytes b q) = subst NotANumber (sym (q ∙ ap (Value.Octets Kind.String) (sym (ap octets q) ∙ e))) nan-text
 
-  -- the bits b of a Float, and of a Double
+  -- the bits b, of which n says whether they are a NaN's
+  by-bits : (j b : ℕ) (n : Bool) → (T n → NotANumber w) → Of28 w (if n then stop 28 else ok (Value.Scalar j b))
+  by-bits j b n f = of-if w n _ _ (λ h _. f h) (λ _. tt)
+
   by-float : (b : ℕ) → (T (floatNan b) → NotANumber w) → Of28 w (floatOfBits b)
-  by-float b f = of-if w (floatNan b) _ _ (λ h _. f h) (λ _. tt)
+  by-float b = by-bits Kind.Float b (floatNan b)
 
   by-double : (b : ℕ) → (T (doubleNan b) → NotANumber w) → Of28 w (doubleOfBits b)
-  by-double b f = of-if w (doubleNan b) _ _ (λ h _. f h) (λ _. tt)
+  by-double b = by-bits Kind.Double b (doubleNan b)
 
   by-text : (f : ℕ → Outcome) → ((b : ℕ) → (T (floatNan b) → NotANumber w) → Of28 w (f b)) → T (is Kind.String w) → Of28 w (special f (parse-special-float (octets w)))
   unfolding special
@@ -139,8 +127,8 @@ module _ (w : Value) where
   float-28 : Of28 w (resolve-float w)
   unfolding resolve-float
   float-28 =
-      of-if w (is Kind.Int w) _ _ (λ _. by-float (floatOfInt (number w)) (no-nan _ w (Nans.floatNan-floatOfInt (number w))))
-      λ _. of-if w (is Kind.Long w) _ _ (λ _. by-float (floatOfLong (number w)) (no-nan _ w (Nans.floatNan-floatOfLong (number w))))
+      of-if w (is Kind.Int w) _ _ (λ _. by-float (floatOfInt (number w)) (never _ w (Nans.floatNan-floatOfInt (number w))))
+      λ _. of-if w (is Kind.Long w) _ _ (λ _. by-float (floatOfLong (number w)) (never _ w (Nans.floatNan-floatOfLong (number w))))
       λ _. of-if w (is Kind.Float w) _ _ (λ t. by-float (number w) (float-is t))
       λ _. of-if w (is Kind.Double w) _ _ (λ t. by-float (floatOfDouble (number w)) (λ h. double-is t (subst T (Nans.floatNan-floatOfDouble (number w)) h)))
       λ _. of-if w (is Kind.String w) _ _ (λ t. by-text (λ b. floatOfBits b) by-float t) (λ _. of-six w)
@@ -148,8 +136,8 @@ module _ (w : Value) where
   double-28 : Of28 w (resolve-double w)
   unfolding resolve-double
   double-28 =
-      of-if w (is Kind.Int w) _ _ (λ _. by-double (doubleOfInt (number w)) (no-nan _ w (Nans.doubleNan-doubleOfInt (number w))))
-      λ _. of-if w (is Kind.Long w) _ _ (λ _. by-double (doubleOfLong (number w)) (no-nan _ w (Nans.doubleNan-doubleOfLong (number w))))
+      of-if w (is Kind.Int w) _ _ (λ _. by-double (doubleOfInt (number w)) (never _ w (Nans.doubleNan-doubleOfInt (number w))))
+      λ _. of-if w (is Kind.Long w) _ _ (λ _. by-double (doubleOfLong (number w)) (never _ w (Nans.doubleNan-doubleOfLong (number w))))
       λ _. of-if w (is Kind.Float w) _ _ (λ t. by-double (doubleOfFloat (number w)) (λ h. float-is t (subst T (Nans.doubleNan-doubleOfFloat (number w)) h)))
       λ _. of-if w (is Kind.Double w) _ _ (λ t. by-double (number w) (double-is t))
       λ _. of-if w (is Kind.String w) _ _ (λ t. by-text (λ b. doubleOfBits (doubleOfFloat b)) (λ b f. by-double (doubleOfFloat b) (λ h. f (subst T (Nans.doubleNan-doubleOfFloat b) h))) t) (λ _. of-six w)
@@ -181,13 +169,17 @@ unfolding resolve resolvePlain resolve-float resolve-double kindOf number peel d
 infinity-converted true = (refl, refl)
 infinity-converted false = (refl, refl)
 
--- from text
-abbrev infinityText : Bool → Text
-infinityText true = ascii "-INF"
-infinityText false = ascii "INF"
+-- from text: the short form, or the long one
+abbrev infinityText : Bool → Bool → Text
+infinityText true true = ascii "-INF"
+infinityText true false = ascii "-Infinity"
+infinityText false true = ascii "INF"
+infinityText false false = ascii "Infinity"
 
-pub infinity-text : (s : Bool) → (resolve (Schema.Plain Kind.Float) (Value.Octets Kind.String (infinityText s)) ≡ ok (Value.Scalar Kind.Float (floatInfinity s)))
-    × (resolve (Schema.Plain Kind.Double) (Value.Octets Kind.String (infinityText s)) ≡ ok (Value.Scalar Kind.Double (doubleInfinity s)))
+pub infinity-text : (s short : Bool) → (resolve (Schema.Plain Kind.Float) (Value.Octets Kind.String (infinityText s short)) ≡ ok (Value.Scalar Kind.Float (floatInfinity s)))
+    × (resolve (Schema.Plain Kind.Double) (Value.Octets Kind.String (infinityText s short)) ≡ ok (Value.Scalar Kind.Double (doubleInfinity s)))
 unfolding resolve resolvePlain resolve-float resolve-double special parse-special-float ascii same kindOf octets peel doubleOfFloat convert convertMagnitude
-infinity-text true = (refl, refl)
-infinity-text false = (refl, refl)
+infinity-text true true = (refl, refl)
+infinity-text true false = (refl, refl)
+infinity-text false true = (refl, refl)
+infinity-text false false = (refl, refl)

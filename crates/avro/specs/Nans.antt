@@ -31,7 +31,7 @@ unfoldable mutual
   entriesNoNan noEntries = true
   entriesNoNan (entry n v es) = noNan v && entriesNoNan es
 
--- what a Float or a Double can't be made of: a NaN of either kind, and the text
+-- what would be a NaN as a Float or a Double: a NaN of either kind, and the text
 pub data NotANumber : Value → Type 0 where
   float-nan : (b : ℕ) → T (floatNan b) → NotANumber (Value.Scalar Kind.Float b)
   double-nan : (b : ℕ) → T (doubleNan b) → NotANumber (Value.Scalar Kind.Double b)

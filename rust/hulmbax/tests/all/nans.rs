@@ -39,6 +39,12 @@ fn at(path: &str, refusal: Refusal) -> (String, Refusal) {
     (path.to_string(), refusal)
 }
 
+// A boat and its elapsed time, if it has one.
+fn sheet() -> Reader {
+    let elapsed = nullable(Schema::Double);
+    Reader::new(&record([("sail", Schema::String), ("elapsed", elapsed)])).unwrap()
+}
+
 fn finish(elapsed: impl Into<Value>) -> Value {
     Value::record([("sail", "B 19".into()), ("elapsed", elapsed.into())])
 }
@@ -196,11 +202,7 @@ fn in_the_place_of_6_among_other_refusals() {
 
 #[test]
 fn a_nullable_double_that_is_a_nan_is_refused_at_its_field() {
-    let schema = record([
-        ("sail", Schema::String),
-        ("elapsed", nullable(Schema::Double)),
-    ]);
-    let mut reader = Reader::new(&schema).unwrap();
+    let mut reader = sheet();
     for sent in [finish(f64::NAN), finish(Some(f64::NAN))] {
         let error = reader.resolve(&sent).unwrap_err();
         assert_eq!(error.refusal(), Some(Refusal::NotANumber));
@@ -215,11 +217,7 @@ fn a_nullable_double_that_is_a_nan_is_refused_at_its_field() {
 #[test]
 fn a_nullable_double_that_is_the_text_nan_has_28_as_its_source() {
     use std::error::Error as _;
-    let schema = record([
-        ("sail", Schema::String),
-        ("elapsed", nullable(Schema::Double)),
-    ]);
-    let mut reader = Reader::new(&schema).unwrap();
+    let mut reader = sheet();
     for sent in [finish("NaN"), finish(f32::NAN)] {
         let error = reader.resolve(&sent).unwrap_err();
         assert_eq!(error.refusal(), Some(Refusal::NoVariant));
