@@ -8,6 +8,8 @@
 //     w OPENING CLOSING INSTANT ANSWER    whether a window holds an instant, 01 or 00: as before, for the first two frames
 //
 // The bytes of a line stand together, and numbers are high byte first.
+#![tactic(auto)]
+
 ghost use Rattle.std.specs.Prelude.{◌*◌, ◌≤◌, length};
 
 use buffer::Answer;

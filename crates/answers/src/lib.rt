@@ -1,4 +1,6 @@
 // The line that program `resolve` writes for a value under a schema.
+#![tactic(auto)]
+
 ghost use Rattle.std.specs.Prelude.{◌≡◌, ◌++◌, ◌≤◌, length, drop};
 ghost use Rattle.hulmbax.specs.Answer.{answer, workspace_size};
 ghost use Rattle.lines.specs.Line.{answer_line};

@@ -1,4 +1,6 @@
 // Conversions between numbers from bits to bits, each through the scalar; and the texts that are a Float.
+#![tactic(auto)]
+
 ghost use Rattle.std.specs.Prelude.{◌≡◌};
 ghost use Rattle.scalar.specs.Conversion.{long_of_int, float_of_int, float_of_long, double_of_int, double_of_long, float_of_double, double_of_float, parse_special_float};
 ghost use Rattle.scalar.specs.Scalars.{of_content, cast_content, float_cast};

@@ -1,5 +1,7 @@
 // resolve_bytes and try_u8 of src/types.rs: a Bytes is kept, a String gives its bytes, and an Array of numbers gives a byte for
 // each item.
+#![tactic(auto)]
+
 ghost use Rattle.std.specs.Prelude.{◌≡◌};
 ghost use Rattle.text.specs.Measured.{Reads};
 ghost use Rattle.frame.specs.Readers.{read_list};

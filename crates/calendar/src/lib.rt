@@ -1,5 +1,7 @@
 // The calendar over Date and the timestamps of kinds 13 to 15: year, month and day of a Date and back, a Duration added to an instant,
 // and windows of instants. Proleptic Gregorian, with a year 0; every entry takes constant time.
+#![tactic(auto)]
+
 ghost use Rattle.std.specs.Prelude.{◌≡◌, ◌+◌, ◌-◌, ◌*◌, ◌≤◌, ◌<◌, ◌^◌, ◌&&◌, pos, negsuc};
 ghost use Rattle.std.proofs.Math.IntN.{sub_ℕ};
 ghost use Rattle.std.specs.Int.Signed.{le_z, lt_z};

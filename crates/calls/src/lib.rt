@@ -1,4 +1,6 @@
 // Calls of the entry: what each of them shows is what the claims of demand 3 speak of.
+#![tactic(auto)]
+
 ghost use Rattle.stability.specs.Claims.{Called};
 
 use hulmbax::Resolved;

@@ -1,5 +1,7 @@
 // The `resolve_` functions of src/types.rs for Null, Boolean, the numbers, and the dates and times. A number or a time is read as a scalar,
 // converted, and written as the scalar that comes out.
+#![tactic(auto)]
+
 ghost use Rattle.std.specs.Prelude.{◌≡◌, List, ◌∷◌, true, ℕ, ◌≤◌, ◌<◌, get_or};
 ghost use Rattle.std.proofs.Math.Option.{some};
 ghost use Rattle.number.specs.Number.{bytes_of};

@@ -4,6 +4,8 @@
 //
 //     HEX       the number of frames in a byte, where each frame ends in 2 bytes, high byte first, and the input's bytes
 //     ANSWER    the answer's bytes in hexadecimal, `=` where there are none, or `-` and the refusal's number
+#![tactic(auto)]
+
 ghost use Rattle.std.specs.Prelude.{◌*◌, ◌≤◌, length};
 
 use hulmbax::Resolved;

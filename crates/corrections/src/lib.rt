@@ -1,4 +1,6 @@
 // Names the current finish of each sail, of up to 256 frames.
+#![tactic(auto)]
+
 ghost use Rattle.std.specs.Prelude.{◌≡◌, ◌+◌, ◌≤◌, ◌<◌, length, take};
 ghost use Rattle.text.specs.Text;
 ghost use Rattle.lists.specs.Frames.{frame_at, frames};

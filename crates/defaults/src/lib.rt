@@ -1,5 +1,7 @@
 // Number 4: whether every default that its union's first variant accepts is at most 4,096 bytes there. A default is resolved
 // against a variant whose own defaults are known to be short, so inner schemas come first.
+#![tactic(auto)]
+
 ghost use Rattle.std.specs.Prelude.{◌<◌, ◌^◌, ◌≡◌, get_or};
 ghost use Rattle.frame.specs.ValueFrame.{read_value};
 ghost use Rattle.frame.specs.SchemaFrame.{read_schema, read_field};

@@ -1,4 +1,6 @@
 // Where the parts of a schema's field stand: its default, if it has one, and its schema; and how far the field reaches.
+#![tactic(auto)]
+
 ghost use Rattle.std.specs.Prelude.{◌≤◌, ◌<◌, length};
 ghost use Rattle.text.specs.Measured.{Reads};
 ghost use Rattle.frame.specs.SchemaFrame.{read_field, read_schema};

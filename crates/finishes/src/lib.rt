@@ -1,4 +1,6 @@
 // What a frame says of a finish: where its sail stands, and the rank of its seq.
+#![tactic(auto)]
+
 ghost use Rattle.std.specs.Prelude.{◌≡◌};
 ghost use Rattle.text.specs.Measured.{Reads};
 ghost use Rattle.frame.specs.ValueFrame.{read_value};

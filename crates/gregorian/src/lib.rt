@@ -1,5 +1,7 @@
 // The proleptic Gregorian calendar in constant time, over numbers from 0 on: years are counted from a year that is a multiple of 400, and
 // days from its 1 January.
+#![tactic(auto)]
+
 ghost use Rattle.std.specs.Prelude.{◌≡◌, ◌+◌, ◌*◌, ◌≤◌, ◌<◌, ◌^◌};
 ghost use Rattle.gregorian.specs.Rules.{year_length, month_length, month_start};
 ghost use Rattle.gregorian.specs.Counted.{leap_at, years_to, Within, number_of, day_with, months_on, all_after};

@@ -1,4 +1,6 @@
 // Hexadecimal and decimal digits of program resolve: a line to the bytes of its frame, and bytes and numbers to digits.
+#![tactic(auto)]
+
 ghost use Rattle.std.specs.Prelude.{◌≡◌, ◌++◌, ◌+◌, ◌*◌, ◌≤◌, ◌<◌, length, drop};
 ghost use Rattle.uuid_text.specs.Rfc4122.{small_digit};
 ghost use Rattle.hex_text.specs.Hex.{hex_of, decimal};

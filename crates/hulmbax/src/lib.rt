@@ -1,4 +1,6 @@
 // The public entries: a record brought to a reader schema, and the current finish of each sail. All entries for C are here.
+#![tactic(auto)]
+
 ghost use Rattle.std.specs.Prelude.{◌≡◌, ◌-◌, length};
 ghost use Rattle.frame.specs.ValueFrame.{decode_value};
 ghost use Rattle.frame.specs.SchemaFrame.{decode_schema};

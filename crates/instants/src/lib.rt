@@ -1,5 +1,7 @@
 // The calendar's entries in the forms that C has: instants and durations as value frames, days and Dates in slots of 32-bit numbers, and
 // the answer as one signed number, a refusal's negated.
+#![tactic(auto)]
+
 ghost use Rattle.std.specs.Prelude.{◌≡◌, List, ℕ, pos, neg_ℤ, length, get_or};
 ghost use Rattle.std.proofs.Math.Option.{some};
 ghost use Rattle.text.specs.Measured.{Reads};

@@ -1,6 +1,8 @@
 // Program judge: the readers' verdicts beside a list of what frames are known to be. A line of standard input is `s` or `v`, for a
 // schema or a value, the frame in hexadecimal, and a mark: `+` for a sound frame, else the number that stops it; or it begins with
 // `#` and says something. Each line whose frame has another mark is named, and at the end both are counted.
+#![tactic(auto)]
+
 ghost use Rattle.std.specs.Prelude.{◌≡◌};
 ghost use Rattle.judge.specs.Mark.{schema_mark, value_mark, mark_of};
 

@@ -1,5 +1,7 @@
 // A schema that has no child: its own resolve_ function, by the kind byte. What that function needs of the schema, a size
 // or a precision, is read from the part behind the kind byte.
+#![tactic(auto)]
+
 ghost use Rattle.std.specs.Prelude.{◌≡◌, get_or};
 ghost use Rattle.text.specs.Measured.{Reads};
 ghost use Rattle.frame.specs.Kind;

@@ -1,4 +1,6 @@
 // Lines of the programs: a text cut into lines, the frame that a line stands for, and the line for an answer.
+#![tactic(auto)]
+
 pub mod input;
 
 ghost use Rattle.std.specs.Prelude.{◌≡◌, [], ◌∷◌, ◌++◌, ◌+◌, ◌*◌, ◌≤◌, ◌<◌, length, take, drop};

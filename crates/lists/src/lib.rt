@@ -1,4 +1,6 @@
 // Lists of frames: one input, and where each of its frames ends.
+#![tactic(auto)]
+
 ghost use Rattle.std.specs.Prelude.{◌≡◌};
 ghost use Rattle.lists.specs.Frames.{frame_at};
 

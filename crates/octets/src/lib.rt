@@ -1,5 +1,7 @@
 // The `resolve_` functions of src/types.rs for a String, a Fixed, a Decimal, a Uuid and a Duration: each takes a part that holds a value and
 // writes the result into what is left of the result buffer.
+#![tactic(auto)]
+
 ghost use Rattle.std.specs.Prelude.{◌≡◌, List, ◌∷◌, ◌++◌, true, ℕ, ◌<◌, ◌≤◌, length, drop};
 ghost use Rattle.std.proofs.Math.Option.{some, none};
 ghost use Rattle.base.specs.Base.{if◌then◌else◌, after};

@@ -3,6 +3,8 @@
 // and stdout what the documents say: RFC 3629 and RFC 4122 print their own answers; those of IEEE 754 and of the decimal rule
 // are worked out by exact arithmetic over whole numbers from the rules that their section names; the byte pairs of two names are
 // counted by hand.
+#![tactic(auto)]
+
 mod line;
 mod number_line;
 mod text_line;

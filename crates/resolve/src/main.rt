@@ -1,6 +1,8 @@
 // Program resolve: lines of hexadecimal from standard input, the schema first and then values; a line to standard output for each value.
 // What is read and written has no contract in the language. So the lines' frames and answers, and what is to be done after each read and write,
 // are proved (crates lines and answers), and that the lines are handed on in order is to be read here.
+#![tactic(auto)]
+
 ghost use Rattle.std.specs.Prelude.{◌≡◌, false, ◌≤◌, length};
 ghost use Rattle.lines.specs.Held.{Held};
 ghost use Rattle.resolve.specs.Buffers.{Buffers};

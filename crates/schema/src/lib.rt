@@ -1,4 +1,6 @@
 // Schema frames: reading them, and what is sound in them.
+#![tactic(auto)]
+
 mod check;
 mod names;
 mod plain;

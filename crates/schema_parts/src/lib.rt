@@ -1,4 +1,6 @@
 // Parts of schema nodes that hold no node: what stands behind the kind byte of a node without children, and the tables of a union.
+#![tactic(auto)]
+
 mod leaf;
 mod table;
 

@@ -1,4 +1,6 @@
 // Standard input and standard output of the programs, and what they count.
+#![tactic(auto)]
+
 pub mod calls;
 pub mod input;
 pub mod output;

@@ -1,4 +1,6 @@
 // resolve_enum of src/types.rs: the place of a symbol among the schema's.
+#![tactic(auto)]
+
 ghost use Rattle.std.specs.Prelude.{◌≡◌, ◌∷◌, ◌++◌, ◌<◌, length, get_or, drop};
 ghost use Rattle.std.proofs.Math.Option.{some};
 ghost use Rattle.number.specs.Number.{bytes_of};

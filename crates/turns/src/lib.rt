@@ -1,5 +1,7 @@
 // The order in which a union's variants are tried, so that the first one that stands is the crate's choice
 // (src/schema/union.rs): the named ones before the kind table's position, the table's, the named ones behind it, all others.
+#![tactic(auto)]
+
 ghost use Rattle.std.specs.Prelude.{◌≡◌, true, ◌+◌, ◌*◌, ◌≤◌, length};
 ghost use Rattle.text.specs.Measured.{Reads};
 ghost use Rattle.number.specs.Number.{number_at};

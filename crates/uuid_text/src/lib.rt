@@ -1,4 +1,6 @@
 // The text forms of a UUID: 32 hexadecimal digits; the 36-character form of RFC 4122; that form in braces, or after `urn:uuid:`.
+#![tactic(auto)]
+
 ghost use Rattle.std.specs.Prelude.{◌≡◌, ◌<◌, length};
 ghost use Rattle.std.proofs.Math.Option.{none};
 ghost use Rattle.uuid_text.specs.Uuid.{hex_digit, hex_bytes, has_hyphens, without_hyphens, hyphenated, in_braces, after_urn, uuid_of_text, parsed};

@@ -1,4 +1,6 @@
 // What the content of a value node is made of, by its kind, and the leaves of a value.
+#![tactic(auto)]
+
 ghost use Rattle.std.specs.Prelude.{◌≡◌, ◌≤◌};
 ghost use Rattle.text.specs.Measured.{Measured};
 ghost use Rattle.frame.specs.Kind;

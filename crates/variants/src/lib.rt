@@ -1,4 +1,6 @@
 // The ways into a union schema: its variants, its two tables, and the kinds that lead to them (src/schema/union.rs).
+#![tactic(auto)]
+
 ghost use Rattle.std.specs.Prelude.{◌≡◌, List, ◌∷◌, ◌++◌, ℕ, ◌+◌, ◌-◌, ◌*◌, ◌<◌, ◌≤◌, drop, get_or, length};
 ghost use Rattle.number.specs.Number.{bytes_of, number_at};
 ghost use Rattle.text.specs.Measured.{Reads};

@@ -1,6 +1,8 @@
 // Program vectors: a list of the crate's own answers from standard input, replayed through the entry and compared.
 // A line `s HEX` is a schema and `v HEX` a value under the last schema; `#` begins a comment. Any other line is the crate's answer to the
 // last value, as program `resolve` writes it.
+#![tactic(auto)]
+
 mod list;
 
 ghost use Rattle.std.specs.Prelude.{◌≡◌, length};

@@ -1,6 +1,8 @@
 // Resolution of a value against a schema (src/types.rs, src/schema/union.rs) over parts of frames: node, record and union
 // resolution, which call one another with a falling schema depth. Each function writes its result into the slice that it is
 // lent, as far as it fits, and answers the result's whole length or the refusal.
+#![tactic(auto)]
+
 ghost use Rattle.std.specs.Prelude.{◌≡◌, ◌-◌};
 ghost use Rattle.frame.specs.ValueFrame.{read_entry, read_value};
 ghost use Rattle.frame.specs.SchemaFrame.{read_field, read_schema};
