@@ -9,7 +9,7 @@ ghost use Rattle.bits.specs.Special.{special_of};
 use scalar::Scalar;
 
 // The Float's bits that a text stands for, if it is one of the five.
-#[derive(Drop)]
+#[derive(Clone, Copy)]
 pub enum SpecialFloat {
     Bits(u32),
     NotOne,

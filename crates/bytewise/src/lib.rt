@@ -17,7 +17,7 @@ use frame::kind;
 use scalar::Cast;
 
 // What an item is as a byte, or the number of its refusal.
-#[derive(Drop)]
+#[derive(Clone, Copy)]
 pub enum Byte {
     Is(u8),
     Refused(u8),

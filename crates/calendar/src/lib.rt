@@ -17,7 +17,7 @@ use gregorian::{Counted, Instant};
 use scalar::Scalar;
 
 // A day by its year, month and day of the month.
-#[derive(Drop)]
+#[derive(Clone, Copy)]
 pub struct Civil {
     pub year: i32,
     pub month: u32,
@@ -25,21 +25,21 @@ pub struct Civil {
 }
 
 // The Date of a day, or the refusal.
-#[derive(Drop)]
+#[derive(Clone, Copy)]
 pub enum Dated {
     On(i32),
     Refused(u8),
 }
 
 // An instant with a Duration added, or the refusal.
-#[derive(Drop)]
+#[derive(Clone, Copy)]
 pub enum Sum {
     To(Scalar),
     Refused(u8),
 }
 
 // Whether a window holds an instant, or the refusal.
-#[derive(Drop)]
+#[derive(Clone, Copy)]
 pub enum Held {
     Inside,
     Outside,
@@ -47,7 +47,7 @@ pub enum Held {
 }
 
 // The number of a timestamp, or the refusal.
-#[derive(Drop)]
+#[derive(Clone, Copy)]
 enum Stamp {
     At(i64),
     Refused(u8),

@@ -12,7 +12,7 @@ use text::content;
 use value::value_len;
 
 // Whether there is a default, and where it and the schema begin.
-#[derive(Drop)]
+#[derive(Clone, Copy)]
 pub struct FieldAt {
     pub default: bool,
     pub default_at: usize,

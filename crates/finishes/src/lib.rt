@@ -12,21 +12,21 @@ use find::Found;
 use frame::kind;
 
 // From where to before where a text stands.
-#[derive(Drop)]
+#[derive(Clone, Copy)]
 enum Part {
     At(usize, usize),
     Nothing,
 }
 
 // The rank of a Long.
-#[derive(Drop)]
+#[derive(Clone, Copy)]
 enum Long {
     Of(u64),
     Nothing,
 }
 
 // From where to before where a finish's sail stands, and the rank of its seq; Broken is what 24 refuses.
-#[derive(Drop)]
+#[derive(Clone, Copy)]
 pub enum Entry {
     Of(usize, usize, u64),
     Broken,

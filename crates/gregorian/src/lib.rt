@@ -7,7 +7,7 @@ ghost use Rattle.gregorian.specs.Rules.{year_length, month_length, month_start};
 ghost use Rattle.gregorian.specs.Counted.{leap_at, years_to, Within, number_of, day_with, months_on, all_after};
 
 // A day by its counted year, its month and its day of the month.
-#[derive(Drop)]
+#[derive(Clone, Copy)]
 pub struct Counted {
     pub year: u64,
     pub month: u64,
@@ -15,7 +15,7 @@ pub struct Counted {
 }
 
 // An instant by its day and the part of the day, of u units to a day.
-#[derive(Drop)]
+#[derive(Clone, Copy)]
 pub struct Instant {
     pub day: u64,
     pub rest: u64,

@@ -9,7 +9,7 @@ ghost use Rattle.hex_text.specs.Line.{line_frame, LineHeld};
 mod table;
 
 // A line's frame: its length in bytes; a line that isn't whole pairs of digits; more pairs than there is room for.
-#[derive(Drop)]
+#[derive(Clone, Copy)]
 pub enum Frame {
     Of(usize),
     Broken,

@@ -17,7 +17,7 @@ use frame::Verdict;
 use walk::Walk;
 
 // A result of so many bytes, or the number of what stopped the record.
-#[derive(Drop)]
+#[derive(Clone, Copy)]
 pub enum Resolved {
     Accepted(usize),
     Refused(u8),

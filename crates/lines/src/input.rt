@@ -6,7 +6,7 @@ ghost use Rattle.lines.specs.Held.{Held, uncut, held_line, more, is_line};
 
 // How far the input is cut: the block's bytes from `at` to `end` are still to be cut; `filled` characters of the last line are held, none
 // where it is `long`, longer than there is room for; whether it is `whole`; and whether the input is `over`, ended or failed.
-#[derive(Drop)]
+#[derive(Clone, Copy)]
 pub struct Reader {
     pub at: usize,
     pub end: usize,

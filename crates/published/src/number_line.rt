@@ -95,7 +95,7 @@ fn of_two(ok: bool, name: &[u8], b: u16) -> Told {
 }
 
 // A number of 2, 4 or 8 bytes.
-#[derive(Drop)]
+#[derive(Clone, Copy)]
 enum Word {
     Two(u16),
     Four(u32),

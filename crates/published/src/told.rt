@@ -1,5 +1,5 @@
 // What became of a line: whether a leaf has its name and it was given what that leaf takes, and whether every write so far went through.
-#[derive(Drop)]
+#[derive(Clone, Copy)]
 pub(crate) struct Told {
     pub known: bool,
     pub ok: bool,

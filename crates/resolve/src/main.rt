@@ -10,14 +10,14 @@ ghost use Rattle.resolve.specs.Buffers.{Buffers};
 use lines::input::Reader;
 
 // The bytes that wait to be written, and whether every write so far went through.
-#[derive(Drop)]
+#[derive(Clone, Copy)]
 struct Output {
     waits: usize,
     ok: bool,
 }
 
 // The last line that was cut from the input, and the output.
-#[derive(Drop)]
+#[derive(Clone, Copy)]
 struct Turn {
     reader: Reader,
     output: Output,

@@ -4,7 +4,7 @@ ghost use Rattle.streams.specs.Calls.{unmoved, after, is_again, Within};
 
 // What a call did: it moved so many bytes; it moved none, as a read does at the input's end; a signal broke it off; it was not to wait, and
 // would have had to; or it failed.
-#[derive(Drop)]
+#[derive(Clone, Copy)]
 pub enum Step {
     Took(usize),
     Nothing,

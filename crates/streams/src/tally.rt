@@ -5,7 +5,7 @@ ghost use Rattle.streams.specs.Tally.{started, one_more, passed_over, Compared};
 use crate::output::{put, put_decimal};
 
 // The lines read, the answers compared, those that differ, and whether every write so far went through.
-#[derive(Drop)]
+#[derive(Clone, Copy)]
 pub struct Tally {
     pub line: u64,
     pub compared: u64,

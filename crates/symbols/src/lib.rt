@@ -21,7 +21,7 @@ use frame::{kind, texts_len};
 use octets::content;
 
 // What the search comes to: the place of the symbol, that of the default, or neither.
-#[derive(Drop)]
+#[derive(Clone, Copy)]
 pub enum Place {
     Symbol(u16),
     Default(u16),

@@ -20,7 +20,7 @@ use variants::{
 
 // What a union's choice goes by, for a value of one kind: the kind table's position, the base kind of the named variants to
 // try, where their positions stand and how many there are, how many come before the table's, and whether they rise.
-#[derive(Drop)]
+#[derive(Clone, Copy)]
 pub struct Way {
     pub table: Found,
     pub kind: u8,
@@ -32,7 +32,7 @@ pub struct Way {
 
 // Whose turn it is: one of the named positions before the table's, the table's, one of the named positions behind it, or one of
 // all positions.
-#[derive(Drop)]
+#[derive(Clone, Copy)]
 pub enum Turn {
     Before(usize),
     Table,
@@ -41,7 +41,7 @@ pub enum Turn {
 }
 
 // A variant's position, and where it stands.
-#[derive(Drop)]
+#[derive(Clone, Copy)]
 pub struct Spot {
     pub position: usize,
     pub at: usize,
@@ -49,7 +49,7 @@ pub struct Spot {
 
 // What a turn does: it tries the variant of a position, which stands at a place; it tries none; or there is none left. The last
 // variant that was gone to is told with it, to go on from.
-#[derive(Drop)]
+#[derive(Clone, Copy)]
 pub enum Due {
     At(usize, usize),
     Not(usize, usize),

@@ -7,7 +7,7 @@ ghost use Rattle.uuid_text.specs.Uuid.{hex_digit, hex_bytes, has_hyphens, withou
 ghost use Rattle.uuid_text.specs.Forms.{or_sixteen, place};
 
 // ok, and the 16 bytes; where the text is no UUID, not ok, and zeros.
-#[derive(Drop)]
+#[derive(Clone, Copy)]
 pub struct Parsed {
     pub ok: bool,
     pub bytes: [u8; 16],

@@ -12,7 +12,7 @@ use frame::{Checked, kind};
 use text::Len;
 
 // What the content of a kind is made of.
-#[derive(Drop)]
+#[derive(Clone, Copy)]
 pub enum Shape {
     Fixed(usize),
     Flag,

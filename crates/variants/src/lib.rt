@@ -17,14 +17,14 @@ use frame::kind;
 use schema::schema_len;
 
 // The kind to look for in one of a union's tables, or that none is looked for.
-#[derive(Drop)]
+#[derive(Clone, Copy)]
 pub enum Wanted {
     Kind(u8),
     Any,
 }
 
 // Where the positions of named_index stand, and how many there are.
-#[derive(Drop)]
+#[derive(Clone, Copy)]
 pub struct Positions {
     pub at: usize,
     pub count: usize,

@@ -7,7 +7,7 @@ use streams::output::{put, put_decimal};
 // How far the list is replayed: the length of the last schema's frame, the length of the answer's line to the last value without its
 // newline, the lines read, the answers compared, and those that differ; and whether every write so far went through. The three counts would
 // begin anew past 2^64, which no list reaches.
-#[derive(Drop)]
+#[derive(Clone, Copy)]
 pub struct Replay {
     pub schema: usize,
     pub got: usize,

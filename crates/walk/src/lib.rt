@@ -23,14 +23,14 @@ use value::{entry_len, value_len};
 use variants::{is_tried, put_index, variant_at};
 
 // How many levels the schema and the value may still have.
-#[derive(Drop)]
+#[derive(Clone, Copy)]
 pub struct Walk {
     pub schema: usize,
     pub value: usize,
 }
 
 // What a turn of a union came to: the union's result or refusal, or that the turn passed, with the last variant gone to.
-#[derive(Drop)]
+#[derive(Clone, Copy)]
 pub enum Step {
     Accepted(usize),
     Refused(u8),

@@ -1,0 +1,12 @@
+-- What the loops of `buffer::clearing::fill` keep, and why they end.
+use Prim.Native.Nat.{◌-◌, ◌≤◌}
+use mathlib.Core.Path.{◌≡◌}
+use mathlib.Core.List.{◌++◌}
+use lib.ListN.{length, drop, replicate}
+use Rattle.buffer.proofs.clearing.fill.Given as goal
+
+abbrev pub invariant-loop-i : goal.invariant-loop-i
+invariant-loop-i l = (l.i ≤ length l.initial.b) × ((l.b ≡ replicate l.i 0 ++ drop l.i l.initial.b) × (length l.b ≡ length l.initial.b))
+
+abbrev pub decreases-loop-i : goal.decreases-loop-i
+decreases-loop-i l = length l.initial.b - l.i

@@ -1,0 +1,11 @@
+-- What the loops of `utf8::is_utf8` keep, and why they end.
+use Prim.Native.Nat.{◌-◌}
+use lib.ListN.{length}
+use Rattle.utf8.specs.Steps.{Passed}
+use Rattle.utf8.proofs.is_utf8.Given as goal
+
+abbrev pub invariant-loop-i : goal.invariant-loop-i
+invariant-loop-i l = Passed l.s 0 l.i
+
+abbrev pub decreases-loop-i : goal.decreases-loop-i
+decreases-loop-i l = length l.s - l.i

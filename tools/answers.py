@@ -1,0 +1,296 @@
+#!/usr/bin/env python3
+"""Turns the proof of a function that walks its statements (Proof.antt) into Invariants.antt and Answers.antt.
+
+usage: python3 tools/answers.py CRATE NAMES.json
+
+NAMES.json is what `rt check --generated FOLDER --old-names` writes in the crate's folder: each goal's old name beside today's. An answer that
+only searches is dropped, since the check searches by itself. Labels get their new names, `.before` goes, and a place in what a call left
+is named by its parameter. A proof of a cycle of calls is left as it is.
+"""
+
+import json
+import os
+import re
+import sys
+
+NAME = r"[^\s(){};,\[\]]+"
+PATH = re.compile(r"(?<![\w.'-])([a-z]\w*)((?:\.[^\s(){};,\[\]]+))")
+
+
+def norm(s):
+    return s.replace("-", "_")
+
+
+def split(text):
+    """The head comment and imports, and the declarations, each a list of lines."""
+    head, decls, cur = [], [], None
+    for line in text.split("\n"):
+        if line.startswith("use ") or line.startswith("pub use ") or (cur is None and (line.startswith("--") or not line.strip())):
+            if cur is None or line.startswith(("use ", "pub use ")):
+                head.append(line)
+                continue
+        if line.strip() and not line[0].isspace():
+            m = re.match(r"((?:pub |abbrev |unfoldable |data |record |infixl? \d+ )*)([^\s:]+)(?: \{[^{}]*\})* :", line)
+            if m or line.startswith("--"):
+                cur = [line]
+                decls.append(cur)
+                continue
+        if cur is None:
+            head.append(line)
+        else:
+            cur.append(line)
+    return head, decls
+
+
+def name_of(decl):
+    m = re.match(r"((?:pub |abbrev |unfoldable |data |record )*)([^\s:]+)(?: \{[^{}]*\})* :", decl[0])
+    return m[2] if m else None
+
+
+class Labels:
+    def __init__(self, d):
+        self.by = {}
+        self.callee = {}
+        for place, parent, (old, new), callee, _ in d["places"]:
+            if old:
+                self.by.setdefault(norm(old), new)
+                if callee:
+                    self.callee[new] = callee
+        for (old, new), _ in d["loops"]:
+            self.by[norm(old)] = new
+        # What a match binds, and the fact that a value has its type, by their old labels.
+        self.fields = {}
+        for arm in d["arms"]:
+            if arm:
+                for new, old, path in arm[2]:
+                    if path:
+                        self.fields[(norm(old), tuple(path))] = f"{arm[0]}.{new}"
+        for place in d["typed"]:
+            for new, old in place:
+                self.fields[(norm(old), ("given",))] = f"type_inv.{new}"
+        self.params = d["params"]
+        self.places = {}
+        for p, q in zip([p[0] for p in d["places"]], d["places_by_name"]):
+            self.places[norm(p)] = q
+
+    def part(self, old):
+        return self.by.get(norm(old), old)
+
+    def path(self, rest):
+        """What stands behind c, without its first dot."""
+        parts = [p for p in rest.split(".") if p != ""]
+        while parts and parts[0] == "before":
+            parts.pop(0)
+        if not parts:
+            return ""
+        if parts[0] in ("args", "requires", "lifetimes"):
+            return "." + ".".join(parts)
+        parts = [{"type-inv": "type_inv"}.get(p, p) for p in parts]
+        for k in range(len(parts), 1, -1):
+            new = self.fields.get((norm(parts[0]), tuple(parts[1:k])))
+            if new:
+                return "." + ".".join([new] + parts[k:])
+        label = self.part(parts[0])
+        parts[0] = label
+        callee = self.callee.get(label)
+        if callee and len(parts) > 2 and parts[1] in ("new", "auto"):
+            names = self.params.get(callee)
+            k, j = 0, 2
+            while j < len(parts) and parts[j] == "1":
+                k += 1
+                j += 1
+            if names and j < len(parts) and parts[j] == "0" and k < len(names):
+                parts = parts[:2] + [names[k]] + parts[j + 1:]
+        return "." + ".".join(parts)
+
+
+def flatten(text, labels, var="c"):
+    # An alias of an earlier place is c itself.
+    while True:
+        m = re.search(rf"let (\w+) = {var}(?:\.before)*(?= in\b)[ ]*in\b[ ]*\n?[ ]*", text)
+        if not m:
+            break
+        alias = m[1]
+        text = text[:m.start()] + re.sub(rf"(?<![\w.'-]){alias}(?![\w'-])", var, text[m.end():])
+    def one(m):
+        if m[1] != var:
+            return m[0]
+        return var + labels.path(m[2])
+    text = re.sub(rf"(?<![\w.'-])({var})((?:\.[^\s(){{}};,\[\]]+))", one, text)
+    for old, new in labels.places.items():
+        pass
+    def place(m):
+        n = labels.places.get(norm(m[2]))
+        if not n:
+            return m[0]
+        return "goal." + n
+    text = re.sub(r"\b(?:not-false|not-true) (?:_|[^\s()]+|\([^()]*\)) \(?(c\.if-not-[^\s(),;]+\.(?:true|false))", r"\1", text)
+    text = re.sub(r"\b(tie|lts)\.((?:Then|Else|After|In|At)[\w-]*)", place, text)
+    return text
+
+
+def imports(head, body):
+    out = []
+    for line in head:
+        m = re.match(r"use ([^\s{]+)\.\{(.*)\}$", line)
+        if m:
+            if re.search(r"\.(Statement)$", m[1]):
+                continue
+            keep = []
+            for n in m[2].split(", "):
+                last = n.split(" as ")[-1]
+                parts = [p for p in last.split("◌") if p]
+                if parts and all(p in body for p in parts) and ("◌" in last or re.search(rf"(?<![\w'-]){re.escape(last)}(?![\w'-])", body)):
+                    keep.append(n)
+            if keep:
+                out.append(f"use {m[1]}.{{{', '.join(keep)}}}")
+            continue
+        m = re.match(r"use (\S+) as (\S+)$", line)
+        if m:
+            if re.search(r"\.(Tie|Reads|Lts)$", m[1]):
+                if re.search(rf"(?<![\w'-]){re.escape(m[2])}\.", body):
+                    out.append(line)
+                continue
+            if re.search(rf"(?<![\w'-]){re.escape(m[2])}\.", body):
+                out.append(line)
+            continue
+        if line.startswith("use "):
+            n = line.split(".")[-1]
+            if re.search(rf"(?<![\w'-]){re.escape(n)}\.", body):
+                out.append(line)
+    return out
+
+
+def turn(path, crate, func, d):
+    text = open(path, encoding="utf-8").read()
+    head, decls = split(text)
+    labels = Labels(d)
+    named = {name_of(x): x for x in decls if name_of(x)}
+    close = next((x for x in decls if re.search(r"\btie\.close\b", "\n".join(x))), None)
+    if close is None:
+        return "no close"
+    m = re.search(r"tie\.spec(.*)\)\s*$", "\n".join(close), re.S)
+    if not m:
+        args = []
+    else:
+        args = m[1].split()
+    loops = d["loops"]
+    needs = d["needs"]
+    invs = args[: 2 * len(loops)] if loops else []
+    answers = args[len(invs):]
+    if len(answers) != len(needs):
+        # Not each loop has a measure.
+        for k in range(0, 2 * len(loops) + 1):
+            if len(args) - k == len(needs):
+                invs, answers = args[:k], args[k:]
+                break
+        else:
+            return f"{len(args)} arguments for {len(needs)} goals and {len(loops)} loops"
+    inv_body, ans_body, used = [], [], set(x for x in args)
+    used.add(name_of(close))
+    loopnames = {norm(old): (new, vs, ch) for ((old, new), vs), ch in zip(loops, d["changed"])}
+    for a in invs:
+        decl = "\n".join(named[a])
+        kind = "invariant" if a.startswith("invariant") else "decreases"
+        old = a.split("-", 1)[1]
+        if norm(old) not in loopnames:
+            return f"no loop {old}"
+        new, vs, ch = loopnames[norm(old)]
+        body = decl.split("\n", 1)[1]
+        unf = ""
+        while body.startswith("unfolding"):
+            u, body = body.split("\n", 1)
+            unf += u + "\n"
+        lhs, rhs = body.split(" =", 1)
+        ps = lhs.split()[1:]
+        changed = [v for v, c in zip(vs, ch) if c]
+        paths = [("l.initial." if c else "l.") + v for v, c in zip(vs, ch)] + ["l." + v for v in changed]
+        if len(ps) != len(paths):
+            return f"{a}: {len(ps)} parameters for {paths}"
+        sub = dict(zip(ps, paths))
+        sub.pop("_", None)
+        toks = re.compile(r"(?<![\w'.′₀-])(" + "|".join(re.escape(p) for p in sorted(sub, key=len, reverse=True)) + r")(?![\w'₀-])") if sub else None
+        rhs = toks.sub(lambda m: sub[m[1]], rhs) if toks else rhs
+        inv_body.append(f"abbrev pub {kind}-{new} : goal.{kind}-{new}\n{unf}{kind}-{new} l ={rhs.rstrip()}\n")
+    for a, (old, new) in zip(answers, needs):
+        if a not in named:
+            return f"no answer {a}"
+        decl = "\n".join(named[a]).rstrip()
+        lines = decl.split("\n")
+        # The statement may go over several lines.
+        k = 1
+        while k < len(lines) and lines[k][:1].isspace():
+            k += 1
+        unf = []
+        while k < len(lines) and lines[k].startswith("unfolding"):
+            unf.append(lines[k])
+            k += 1
+        body = "\n".join(lines[k:])
+        m = re.match(rf"{re.escape(a)}(.*?) =(.*)$", body, re.S)
+        if not m:
+            return f"no body of {a}"
+        params, rhs = m[1].split(), m[2]
+        params = [p for p in params if p != "κs"]
+        if rhs.strip() in ("search rules", "search (rules)"):
+            continue
+        rhs = flatten(rhs, labels, params[0] if params else "c")
+        text2 = f"pub {new} : goal.{new}\n" + "".join(u + "\n" for u in unf) + f"{new}{''.join(' ' + p for p in params)} ={rhs}\n"
+        ans_body.append(text2)
+    others = [x for x in decls if name_of(x) is None or name_of(x) not in used]
+    inv_text = "\n".join(inv_body)
+    oth_inv, oth_ans = [], []
+    for x in others:
+        n = name_of(x)
+        t = "\n".join(x).rstrip() + "\n"
+        if n and re.search(rf"(?<![\w'-]){re.escape(n)}(?![\w'-])", inv_text):
+            oth_inv.append((n, t))
+        else:
+            oth_ans.append(flatten(t, labels, "c"))
+    folder = os.path.dirname(path)
+    mod = f"Rattle.{crate}.proofs.{func}"
+    comment = next((h for h in head if h.startswith("--")), f"-- `{func}`")
+    if inv_body:
+        extra = []
+        for n, t in oth_inv:
+            t = re.sub(r"^(abbrev |unfoldable )?(?!pub )", lambda m: (m[1] or "") + "pub ", t, count=1) if " pub " not in t.split("\n")[0] and not t.startswith("pub") else t
+            extra.append(t)
+        body = "\n".join(extra + inv_body)
+        text3 = "\n".join(["-- What the loops of " + comment[3:].split(" meets")[0].rstrip(".") + " keep, and why they end."] + imports(head, body) + [f"use {mod}.Given as goal", ""]) + "\n" + body
+        open(os.path.join(folder, "Invariants.antt"), "w", encoding="utf-8").write(text3.rstrip() + "\n")
+    if ans_body:
+        body = "\n".join(oth_ans + ans_body)
+        fromv = [n for n, t in oth_inv if re.search(rf"(?<![\w'-]){re.escape(n)}(?![\w'-])", body)]
+        use = [f"use {mod}.Invariants.{{{', '.join(fromv)}}}"] if fromv else []
+        text4 = "\n".join([comment] + imports(head, body) + use + [f"use {mod}.Goals as goal", ""]) + "\n" + body
+        open(os.path.join(folder, "Answers.antt"), "w", encoding="utf-8").write(text4.rstrip() + "\n")
+    elif oth_ans and any(t.strip() and not t.startswith("--") for t in oth_ans):
+        return "helpers and no answer"
+    os.remove(path)
+    if not os.listdir(folder):
+        os.rmdir(folder)
+    return None
+
+
+def main():
+    crate, names = sys.argv[1:3]
+    data = json.load(open(names, encoding="utf-8"))
+    base = os.path.join("crates", crate, "proofs")
+    for folder, _, files in sorted(os.walk(base)):
+        if "Proof.antt" not in files:
+            continue
+        rel = os.path.relpath(folder, base)
+        func = rel.replace(os.sep, ".")
+        key = f"Rattle-{crate}-proofs.{func}.Lts"
+        if key not in data:
+            print(f"left: {rel}: no names")
+            continue
+        try:
+            said = turn(os.path.join(folder, "Proof.antt"), crate, func, data[key])
+        except Exception as e:
+            said = f"{type(e).__name__}: {e}"
+        if said:
+            print(f"left: {rel}: {said}")
+
+
+if __name__ == "__main__":
+    main()
