@@ -8,6 +8,7 @@ only searches is dropped, since the check searches by itself. Labels get their n
 is named by its parameter. A proof of a cycle of calls is left as it is.
 """
 
+import difflib
 import json
 import os
 import re
@@ -69,6 +70,7 @@ class Labels:
             for new, old in place:
                 self.fields[(norm(old), ("given",))] = f"type_inv.{new}"
         self.params = d["params"]
+        self.args = d["args"]
         self.places = {}
         for p, q in zip([p[0] for p in d["places"]], d["places_by_name"]):
             self.places[norm(p)] = q
@@ -117,14 +119,18 @@ def flatten(text, labels, var="c"):
             return m[0]
         return var + labels.path(m[2])
     text = re.sub(rf"(?<![\w.'-])({var})((?:\.[^\s(){{}};,\[\]]+))", one, text)
-    for old, new in labels.places.items():
-        pass
+    for old, new in labels.args:
+        text = re.sub(re.escape(old.replace(" ", "")) + r"(?![\w-])", new.replace(" ", ""), text)
+
     def place(m):
         n = labels.places.get(norm(m[2]))
         if not n:
             return m[0]
         return "goal." + n
     text = re.sub(r"\b(?:not-false|not-true) (?:_|[^\s()]+|\([^()]*\)) \(?(c\.if-not-[^\s(),;]+\.(?:true|false))", r"\1", text)
+    # That what a match binds has its type's range, the search finds.
+    text = re.sub(rf"{var}\.[\w-]*known_told[\w-]*\.given\.0\.1(?![\w.-])", "(search rules)", text)
+    text = re.sub(r"= \(search rules\)", "= search rules", text)
     text = re.sub(r"\b(tie|lts)\.((?:Then|Else|After|In|At)[\w-]*)", place, text)
     return text
 
@@ -161,6 +167,29 @@ def imports(head, body):
     return out
 
 
+SAME = {"loop_holds": "loop_init", "loop_less": "loop_smaller", "loop_again": "loop_preserved"}
+
+
+def aligned(answers, needs, named):
+    """Answers and goals by their old names, where a goal or an answer has no partner; an answer that only searches may go."""
+    def key(a):
+        n = norm(a)
+        for old, new in SAME.items():
+            n = re.sub(rf"^{old}(?=$|_)", new, n)
+        return n
+    ours, theirs = [key(a) for a in answers], [norm(o) for o, _ in needs]
+    pairs, lost = [], []
+    for tag, i1, i2, j1, j2 in difflib.SequenceMatcher(None, ours, theirs, autojunk=False).get_opcodes():
+        if tag == "equal" or tag == "replace" and i2 - i1 == j2 - j1:
+            pairs += list(zip(answers[i1:i2], needs[j1:j2]))
+        else:
+            lost += answers[i1:i2]
+    real = [a for a in lost if not re.search(r"= search \(?rules\)?\s*$", "\n".join(named.get(a, [""])).rstrip())]
+    if real:
+        return f"no goal for {' '.join(real)} among {' '.join(n for n in theirs if n not in ours)}"
+    return pairs
+
+
 def turn(path, crate, func, d):
     text = open(path, encoding="utf-8").read()
     head, decls = split(text)
@@ -179,13 +208,11 @@ def turn(path, crate, func, d):
     invs = args[: 2 * len(loops)] if loops else []
     answers = args[len(invs):]
     if len(answers) != len(needs):
-        # Not each loop has a measure.
-        for k in range(0, 2 * len(loops) + 1):
-            if len(args) - k == len(needs):
-                invs, answers = args[:k], args[k:]
-                break
-        else:
-            return f"{len(args)} arguments for {len(needs)} goals and {len(loops)} loops"
+        pairs = aligned(answers, needs, named)
+        if isinstance(pairs, str):
+            return pairs
+    else:
+        pairs = list(zip(answers, needs))
     inv_body, ans_body, used = [], [], set(x for x in args)
     used.add(name_of(close))
     loopnames = {norm(old): (new, vs, ch) for ((old, new), vs), ch in zip(loops, d["changed"])}
@@ -212,7 +239,7 @@ def turn(path, crate, func, d):
         toks = re.compile(r"(?<![\w'.′₀-])(" + "|".join(re.escape(p) for p in sorted(sub, key=len, reverse=True)) + r")(?![\w'₀-])") if sub else None
         rhs = toks.sub(lambda m: sub[m[1]], rhs) if toks else rhs
         inv_body.append(f"abbrev pub {kind}-{new} : goal.{kind}-{new}\n{unf}{kind}-{new} l ={rhs.rstrip()}\n")
-    for a, (old, new) in zip(answers, needs):
+    for a, (old, new) in pairs:
         if a not in named:
             return f"no answer {a}"
         decl = "\n".join(named[a]).rstrip()
@@ -245,7 +272,7 @@ def turn(path, crate, func, d):
         if n and re.search(rf"(?<![\w'-]){re.escape(n)}(?![\w'-])", inv_text):
             oth_inv.append((n, t))
         else:
-            oth_ans.append(flatten(t, labels, "c"))
+            oth_ans.append(re.sub(r"(goal\.[\w-]+)(?: (?:invariant|decreases)-[\w-]+)+", r"\1", flatten(t, labels, "c")))
     folder = os.path.dirname(path)
     mod = f"Rattle.{crate}.proofs.{func}"
     comment = next((h for h in head if h.startswith("--")), f"-- `{func}`")
@@ -259,6 +286,8 @@ def turn(path, crate, func, d):
         open(os.path.join(folder, "Invariants.antt"), "w", encoding="utf-8").write(text3.rstrip() + "\n")
     if ans_body:
         body = "\n".join(oth_ans + ans_body)
+        if "search rules" in body and not any(".{rules}" in h or ", rules" in h or "{rules," in h for h in head):
+            head.append("use Rattle.std.proofs.Common.{rules}")
         fromv = [n for n, t in oth_inv if re.search(rf"(?<![\w'-]){re.escape(n)}(?![\w'-])", body)]
         use = [f"use {mod}.Invariants.{{{', '.join(fromv)}}}"] if fromv else []
         text4 = "\n".join([comment] + imports(head, body) + use + [f"use {mod}.Goals as goal", ""]) + "\n" + body
