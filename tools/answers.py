@@ -9,6 +9,7 @@ is named by its parameter. A proof of a cycle of calls is left as it is.
 """
 
 import difflib
+import glob
 import json
 import os
 import re
@@ -16,6 +17,31 @@ import sys
 
 NAME = r"[^\s(){};,\[\]]+"
 PATH = re.compile(r"(?<![\w.'-])([a-z]\w*)((?:\.[^\s(){};,\[\]]+))")
+
+
+def clauses_of_sources():
+    """Of each function by its path: the names of its ensures, where it has several."""
+    found = {}
+    for p in glob.glob(os.path.join("crates", "*", "src", "**", "*.rt"), recursive=True):
+        crate = p.split(os.sep)[1]
+        mods = os.path.relpath(p, os.path.join("crates", crate, "src"))[:-3].split(os.sep)
+        if mods[-1] in ("lib", "main", "mod"):
+            mods = mods[:-1]
+        where, owner, fn = [crate] + mods, None, None
+        for line in open(p, encoding="utf-8"):
+            m = re.match(r"impl(?:<[^>]*>)? (?:\w+ for )?(\w+)", line)
+            if m:
+                owner = m[1]
+            elif line.startswith("}"):
+                owner = None
+            m = re.match(r"(\s*)(?:pub(?:\([^)]*\))? )?(?:unsafe )?(?:extern \"C\" )?fn (\w+)", line)
+            if m:
+                fn = "::".join(where + ([owner] if owner and m[1] else []) + [m[2]])
+                found[fn] = []
+            m = re.match(r"\s*ensures (\w+) \{", line)
+            if m and fn:
+                found[fn].append(m[1])
+    return {k: v for k, v in found.items() if len(v) > 1}
 
 
 def norm(s):
@@ -95,6 +121,17 @@ class Labels:
         label = self.part(parts[0])
         parts[0] = label
         callee = self.callee.get(label)
+        named = CLAUSES.get(callee)
+        if named and len(parts) > 1 and parts[1] == "ensures":
+            k, j = 0, 2
+            while j < len(parts) and parts[j] == "1" and k < len(named) - 1:
+                k, j = k + 1, j + 1
+            if k == len(named) - 1:
+                parts = parts[:2] + [named[k]] + parts[j:]
+            elif j < len(parts) and parts[j] == "0":
+                parts = parts[:2] + [named[k]] + parts[j + 1:]
+            elif j == len(parts):
+                return [f".{label}.ensures.{n}" for n in named[k:]]
         if callee and len(parts) > 2 and parts[1] in ("new", "auto"):
             names = self.params.get(callee)
             k, j = 0, 2
@@ -117,7 +154,10 @@ def flatten(text, labels, var="c"):
     def one(m):
         if m[1] != var:
             return m[0]
-        return var + labels.path(m[2])
+        to = labels.path(m[2])
+        if isinstance(to, str):
+            return var + to
+        return "(" + ", (".join(var + t for t in to[:-1]) + f", {var}{to[-1]}" + ")" * (len(to) - 1)
     text = re.sub(rf"(?<![\w.'-])({var})((?:\.[^\s(){{}};,\[\]]+))", one, text)
     for old, new in labels.args:
         text = re.sub(re.escape(old.replace(" ", "")) + r"(?![\w-])", new.replace(" ", ""), text)
@@ -128,6 +168,8 @@ def flatten(text, labels, var="c"):
             return m[0]
         return "goal." + n
     text = re.sub(r"\b(?:not-false|not-true) (?:_|[^\s()]+|\([^()]*\)) \(?(c\.if-not-[^\s(),;]+\.(?:true|false))", r"\1", text)
+    text = text.replace(".type-inv", ".type_inv").replace("well-formed", "well_formed")
+    text = re.sub(r"\(?sym \(not-not [^()\s]+\) ∙ ap not (c\.if-not-[^\s(),;]+\.(?:true|false))\)", r"\1", text)
     # That what a match binds has its type's range, the search finds.
     text = re.sub(rf"{var}\.[\w-]*known_told[\w-]*\.given\.0\.1(?![\w.-])", "(search rules)", text)
     text = re.sub(r"= \(search rules\)", "= search rules", text)
@@ -165,6 +207,43 @@ def imports(head, body):
             if re.search(rf"(?<![\w'-]){re.escape(n)}\.", body):
                 out.append(line)
     return out
+
+
+def tuple_parts(inner):
+    parts, depth, cur = [], 0, ""
+    for ch in inner:
+        depth += (ch in "([{") - (ch in ")]}")
+        if ch == "," and depth == 0:
+            parts.append(cur)
+            cur = ""
+        else:
+            cur += ch
+    return parts + [cur] if cur.strip() else parts
+
+
+def recorded(rhs, names, binders):
+    """An answer to several clauses, given as a tuple or as one term, by the clauses' names."""
+    rhs = rhs.rstrip()
+    if rhs.endswith(")"):
+        depth, k = 0, len(rhs) - 1
+        while k >= 0:
+            depth += (rhs[k] == ")") - (rhs[k] == "(")
+            if depth == 0:
+                break
+            k -= 1
+        before, inner = rhs[:k], rhs[k + 1:-1]
+        if before.strip() == "" or re.search(r"\bin\s*$", before):
+            parts = tuple_parts(inner)
+            while len(parts) < len(names) and parts[-1].strip().startswith("("):
+                more = tuple_parts(parts[-1].strip()[1:-1])
+                if len(more) < 2:
+                    break
+                parts = parts[:-1] + more
+            if len(parts) == len(names):
+                return before + "record { " + "; ".join(f"{n} = {v.strip()}" for n, v in zip(names, parts)) + " }"
+    m = re.match(r"(.*\bin\b\s*\n?\s*)(.*)$", rhs, re.S)
+    head, last = (m[1], m[2]) if m and "let" in m[1] else (" ", rhs.strip())
+    return f"{head}let all = {last} in\n    record {{ " + "; ".join(f"{n} = all.{'1.' * k}{'0' if k < len(names) - 1 else ''}".rstrip(".") for k, n in enumerate(names)) + " }"
 
 
 SAME = {"loop_holds": "loop_init", "loop_less": "loop_smaller", "loop_again": "loop_preserved"}
@@ -207,6 +286,9 @@ def turn(path, crate, func, d):
     needs = d["needs"]
     invs = args[: 2 * len(loops)] if loops else []
     answers = args[len(invs):]
+    # An answer that stands in the list itself only searches.
+    answers = re.sub(r"\(λ[^()]*\. search rules\)", "searched", " ".join(answers)).split()
+    named["searched"] = ["searched : _", "searched c = search rules"]
     if len(answers) != len(needs):
         pairs = aligned(answers, needs, named)
         if isinstance(pairs, str):
@@ -258,9 +340,15 @@ def turn(path, crate, func, d):
             return f"no body of {a}"
         params, rhs = m[1].split(), m[2]
         params = [p for p in params if p != "κs"]
-        if rhs.strip() in ("search rules", "search (rules)"):
+        if rhs.strip() in ("search rules", "search (rules)") and not unf:
             continue
         rhs = flatten(rhs, labels, params[0] if params else "c")
+        own = CLAUSES.get(f"{crate}::{func.replace('.', '::')}")
+        if own and re.match(r"returns(?![\w])", norm(new).split("_")[0]):
+            rhs = recorded(rhs, own, params[1:])
+        for b, (_, other) in pairs:
+            if b != other:
+                rhs = re.sub(rf"(?<![\w.'-]){re.escape(b)}(?= {re.escape(params[0])}[ )])(?: {re.escape(params[0])} [^\s()]+\.lifetimes)?", lambda m: other + (f" {params[0]}" if m[0] != b else ""), rhs) if params else rhs
         text2 = f"pub {new} : goal.{new}\n" + "".join(u + "\n" for u in unf) + f"{new}{''.join(' ' + p for p in params)} ={rhs}\n"
         ans_body.append(text2)
     others = [x for x in decls if name_of(x) is None or name_of(x) not in used]
@@ -298,6 +386,9 @@ def turn(path, crate, func, d):
     if not os.listdir(folder):
         os.rmdir(folder)
     return None
+
+
+CLAUSES = clauses_of_sources()
 
 
 def main():

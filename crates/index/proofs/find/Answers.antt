@@ -15,19 +15,19 @@ use Rattle.index.proofs.find.Goals as goal
 
 -- where the row stands, by the places that the caller knows
 
-walk : (c : goal.In-loop-i invariant-loop decreases-loop)
+walk : (c : goal.In-loop-i)
     → Walk c.args.s.now c.requires.0 c.args.name.now c.loop-i.i
 walk c = c.loop-i.invariant c.requires.0 c.requires.1
 
-few : (c : goal.In-loop-i invariant-loop decreases-loop) → c.loop-i.i ≤ 1024
+few : (c : goal.In-loop-i) → c.loop-i.i ≤ 1024
 few c = omega (arith, (walk c).within, c.requires.1.few)
 
-readable : (c : goal.In-loop-i invariant-loop decreases-loop)
+readable : (c : goal.In-loop-i)
     → Reads (read_counted (drop (get_or c.args.t.now (510 + 2 * c.loop-i.i) 0) c.args.s.now))
 readable c =
     walk-text c.args.t.now c.args.s.now c.requires.0 c.args.name.now c.requires.1 c.loop-i.i (walk c) c.loop-i-test.true
 
-inside : (c : goal.In-loop-i invariant-loop decreases-loop)
+inside : (c : goal.In-loop-i)
     → get_or c.args.t.now (510 + 2 * c.loop-i.i) 0 ≤ length c.args.s.now
 inside c =
     let a = c.args in
@@ -35,14 +35,14 @@ inside c =
 
 -- the text that was compared
 
-told : (c : goal.After-content-word invariant-loop decreases-loop)
+told : (c : goal.After-content-word)
     → same (text_at c.args.s.now (get_or c.args.t.now (510 + 2 * c.loop-i.i) 0)) c.args.name.now
     ≡ same c.content-word.result.now c.args.name.now
 told c =
     let a = c.args in
     ap (λ (x : List ℕ). same x a.name.now) (tail-text a.s.now (get_or a.t.now (510 + 2 * c.loop-i.i) 0) _ _ c.content-word.ensures.0)
 
-less : (c : goal.After-shared_slice_known-in-loop-i-2-1 invariant-loop decreases-loop)
+less : (c : goal.After-shared_slice_known-in-loop-i-2-1)
     → get_or c.args.t.now (510 + 2 * c.loop-i.i + 1) 0
     < c.loop-i.i
 less c =
@@ -78,7 +78,7 @@ pub bounds-t-e : goal.bounds-t-e
 bounds-t-e c = omega (arith, few c, c.requires.1.size)
 
 pub overflow_cast-p : goal.overflow_cast-p
-overflow_cast-p c = omega (arith, inside c, c.well-formed.1.0.0)
+overflow_cast-p c = omega (arith, inside c, c.well_formed.1.0.0)
 
 pub slice_bounds-content-count : goal.slice_bounds-content-count
 slice_bounds-content-count c = inside c

@@ -1,0 +1,9 @@
+-- `bits::double_to_double` meets its contract: what the three calls ensure, and the law of the conversion from content to content.
+use mathlib.Core.Path.{ap, ◌∙◌}
+use Rattle.scalar.specs.Scalars.{cast_content, double_cast}
+use Rattle.bits.proofs.BitLaws.{double-stays}
+use Rattle.bits.proofs.double_to_double.Goals as goal
+
+pub returns : goal.returns
+returns c =
+    c.content.ensures ∙ ap cast_content (c.to_double.ensures ∙ ap double_cast c.of_double.ensures) ∙ double-stays c.args.b c.ranges.b.fits

@@ -1,0 +1,11 @@
+-- `bits::long_to_double` meets its contract: what the three calls ensure, and the law of the conversion from content to content.
+use mathlib.Core.Path.{ap, ◌∙◌}
+use Rattle.scalar.specs.Scalars.{cast_content, double_cast}
+use Rattle.bits.proofs.BitLaws.{integer-double}
+use Rattle.scalar.specs.Conversion.{double_of_long}
+use Rattle.bits.proofs.long_to_double.Goals as goal
+
+pub returns : goal.returns
+unfolding double_of_long
+returns c =
+    c.content.ensures ∙ ap cast_content (c.to_double.ensures ∙ ap double_cast c.of_long.ensures) ∙ integer-double _
