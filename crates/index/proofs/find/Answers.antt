@@ -13,41 +13,6 @@ use Rattle.index.proofs.PlaceLaws.{tail-reads, tail-text}
 use Rattle.text.proofs.ReadLaws.{place_inside}
 use Rattle.index.proofs.find.Goals as goal
 
--- where the row stands, by the places that the caller knows
-
-walk : (c : goal.In-loop-i)
-    → Walk c.args.s.now c.requires.0 c.args.name.now c.loop-i.i
-walk c = c.loop-i.invariant c.requires.0 c.requires.1
-
-few : (c : goal.In-loop-i) → c.loop-i.i ≤ 1024
-few c = omega (arith, (walk c).within, c.requires.1.few)
-
-readable : (c : goal.In-loop-i)
-    → Reads (read_counted (drop (get_or c.args.t.now (510 + 2 * c.loop-i.i) 0) c.args.s.now))
-readable c =
-    walk-text c.args.t.now c.args.s.now c.requires.0 c.args.name.now c.requires.1 c.loop-i.i (walk c) c.loop-i-test.true
-
-inside : (c : goal.In-loop-i)
-    → get_or c.args.t.now (510 + 2 * c.loop-i.i) 0 ≤ length c.args.s.now
-inside c =
-    let a = c.args in
-    place_inside a.s.now (get_or a.t.now (510 + 2 * c.loop-i.i) 0) (readable c)
-
--- the text that was compared
-
-told : (c : goal.After-content-word)
-    → same (text_at c.args.s.now (get_or c.args.t.now (510 + 2 * c.loop-i.i) 0)) c.args.name.now
-    ≡ same c.content-word.result.now c.args.name.now
-told c =
-    let a = c.args in
-    ap (λ (x : List ℕ). same x a.name.now) (tail-text a.s.now (get_or a.t.now (510 + 2 * c.loop-i.i) 0) _ _ c.content-word.ensures.0)
-
-less : (c : goal.After-shared_slice_known-in-loop-i-2-1)
-    → get_or c.args.t.now (510 + 2 * c.loop-i.i + 1) 0
-    < c.loop-i.i
-less c =
-    walk-less c.args.t.now c.args.s.now c.requires.0 c.args.name.now c.requires.1 c.loop-i.i (walk c) c.loop-i-test.true
-
 pub offset_bounds-t-hash : goal.offset_bounds-t-hash
 offset_bounds-t-hash c = omega arith
 
@@ -66,55 +31,55 @@ unfolding row
 loop-i-init c = λ ps x. walk_start c.args.t.now c.args.s.now ps c.args.name.now x (c.hash.result % 512) (ap (λ h. h % 512) c.hash.ensures) (omega arith)
 
 pub overflow_mul-e : goal.overflow_mul-e
-overflow_mul-e c = omega (arith, few c)
+overflow_mul-e c = omega (arith, (c.loop-i.invariant c.requires.0 c.requires.1).within, c.requires.1.few)
 
 pub overflow_add-e : goal.overflow_add-e
-overflow_add-e c = omega (arith, few c)
+overflow_add-e c = omega (arith, (c.loop-i.invariant c.requires.0 c.requires.1).within, c.requires.1.few)
 
 pub offset_bounds-t-e : goal.offset_bounds-t-e
-offset_bounds-t-e c = omega (arith, few c)
+offset_bounds-t-e c = omega (arith, (c.loop-i.invariant c.requires.0 c.requires.1).within, c.requires.1.few)
 
 pub bounds-t-e : goal.bounds-t-e
-bounds-t-e c = omega (arith, few c, c.requires.1.size)
+bounds-t-e c = omega (arith, (c.loop-i.invariant c.requires.0 c.requires.1).within, c.requires.1.few, c.requires.1.size)
 
 pub overflow_cast-p : goal.overflow_cast-p
-overflow_cast-p c = omega (arith, inside c, c.well_formed.1.0.0)
+overflow_cast-p c = omega (arith, (place_inside c.args.s.now (get_or c.args.t.now (510 + 2 * c.loop-i.i) 0) (walk-text c.args.t.now c.args.s.now c.requires.0 c.args.name.now c.requires.1 c.loop-i.i (c.loop-i.invariant c.requires.0 c.requires.1) c.loop-i-test.true)), c.well_formed.1.0.0)
 
 pub slice_bounds-content-count : goal.slice_bounds-content-count
-slice_bounds-content-count c = inside c
+slice_bounds-content-count c = place_inside c.args.s.now (get_or c.args.t.now (510 + 2 * c.loop-i.i) 0) (walk-text c.args.t.now c.args.s.now c.requires.0 c.args.name.now c.requires.1 c.loop-i.i (c.loop-i.invariant c.requires.0 c.requires.1) c.loop-i-test.true)
 
 pub slice_bounds-content-start : goal.slice_bounds-content-start
-slice_bounds-content-start c = inside c
+slice_bounds-content-start c = place_inside c.args.s.now (get_or c.args.t.now (510 + 2 * c.loop-i.i) 0) (walk-text c.args.t.now c.args.s.now c.requires.0 c.args.name.now c.requires.1 c.loop-i.i (c.loop-i.invariant c.requires.0 c.requires.1) c.loop-i-test.true)
 
 pub content-word-requires : goal.content-word-requires
 content-word-requires c =
     let a = c.args in
-    tail-reads a.s.now (get_or a.t.now (510 + 2 * c.loop-i.i) 0) (readable c)
+    tail-reads a.s.now (get_or a.t.now (510 + 2 * c.loop-i.i) 0) (walk-text c.args.t.now c.args.s.now c.requires.0 c.args.name.now c.requires.1 c.loop-i.i (c.loop-i.invariant c.requires.0 c.requires.1) c.loop-i-test.true)
 
 pub returns-then-same : goal.returns-then-same
 returns-then-same c ps x =
     let a = c.args in
-    walk-hit a.t.now a.s.now ps a.name.now x c.loop-i.i (c.loop-i.invariant ps x) c.loop-i-test.true (told c ∙ sym c.same.ensures ∙ c.if-same.true)
+    walk-hit a.t.now a.s.now ps a.name.now x c.loop-i.i (c.loop-i.invariant ps x) c.loop-i-test.true (ap (λ (x : List ℕ). same x c.args.name.now) (tail-text c.args.s.now (get_or c.args.t.now (510 + 2 * c.loop-i.i) 0) _ _ c.content-word.ensures.0) ∙ sym c.same.ensures ∙ c.if-same.true)
 
 pub overflow_add-i : goal.overflow_add-i
-overflow_add-i c = omega (arith, few c)
+overflow_add-i c = omega (arith, (c.loop-i.invariant c.requires.0 c.requires.1).within, c.requires.1.few)
 
 pub offset_bounds-t-e-in-loop-i : goal.offset_bounds-t-e-in-loop-i
-offset_bounds-t-e-in-loop-i c = omega (arith, few c)
+offset_bounds-t-e-in-loop-i c = omega (arith, (c.loop-i.invariant c.requires.0 c.requires.1).within, c.requires.1.few)
 
 pub bounds-t-e-in-loop-i : goal.bounds-t-e-in-loop-i
-bounds-t-e-in-loop-i c = omega (arith, few c)
+bounds-t-e-in-loop-i c = omega (arith, (c.loop-i.invariant c.requires.0 c.requires.1).within, c.requires.1.few)
 
 pub overflow_cast-i-in-loop-i : goal.overflow_cast-i-in-loop-i
-overflow_cast-i-in-loop-i c = omega (arith, less c, few c)
+overflow_cast-i-in-loop-i c = omega (arith, (walk-less c.args.t.now c.args.s.now c.requires.0 c.args.name.now c.requires.1 c.loop-i.i (c.loop-i.invariant c.requires.0 c.requires.1) c.loop-i-test.true), (c.loop-i.invariant c.requires.0 c.requires.1).within, c.requires.1.few)
 
 pub loop-i-smaller : goal.loop-i-smaller
-loop-i-smaller c = less c
+loop-i-smaller c = walk-less c.args.t.now c.args.s.now c.requires.0 c.args.name.now c.requires.1 c.loop-i.i (c.loop-i.invariant c.requires.0 c.requires.1) c.loop-i-test.true
 
 pub loop-i-preserved : goal.loop-i-preserved
 loop-i-preserved c ps x =
     let a = c.args in
-    walk-next a.t.now a.s.now ps a.name.now x c.loop-i.i (c.loop-i.invariant ps x) c.loop-i-test.true (told c ∙ sym c.same.ensures ∙ c.if-same.false)
+    walk-next a.t.now a.s.now ps a.name.now x c.loop-i.i (c.loop-i.invariant ps x) c.loop-i-test.true (ap (λ (x : List ℕ). same x c.args.name.now) (tail-text c.args.s.now (get_or c.args.t.now (510 + 2 * c.loop-i.i) 0) _ _ c.content-word.ensures.0) ∙ sym c.same.ensures ∙ c.if-same.false)
 
 pub returns : goal.returns
 returns c ps x = walk_end _ ps _ _ (c.loop-i.invariant ps x) (omega arith)
