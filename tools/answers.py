@@ -45,7 +45,32 @@ def clauses_of_sources():
 
 
 def norm(s):
-    return s.replace("-", "_")
+    return s.replace("-", "_").lower()
+
+
+def groups(text):
+    """The arguments that stand side by side in a term."""
+    out, depth, cur = [], 0, ""
+    for ch in text:
+        if ch.isspace() and depth == 0:
+            if cur:
+                out.append(cur)
+            cur = ""
+            continue
+        depth += (ch in "([{") - (ch in ")]}")
+        if depth < 0:
+            break
+        cur += ch
+    return out + [cur] if cur else out
+
+
+def parameters_of(crate):
+    """Of each function of a crate by its name: its parameters' names."""
+    found = {}
+    for p in glob.glob(os.path.join("crates", crate, "src", "**", "*.rt"), recursive=True):
+        for m in re.finditer(r"\bfn (\w+)\(([^)]*)\)", open(p, encoding="utf-8").read()):
+            found[m[1]] = [re.sub(r"^(?:mut )?(\w+):.*$", r"\1", a.strip(), flags=re.S) for a in m[2].split(",") if a.strip()]
+    return found
 
 
 def split(text):
@@ -388,6 +413,99 @@ def turn(path, crate, func, d):
     return None
 
 
+def cycle(path, crate, func, members):
+    """A proof of functions that call one another: each member's goals have its name in front."""
+    text = open(path, encoding="utf-8").read()
+    head, decls = split(text)
+    named = {name_of(x): x for x in decls if name_of(x)}
+    close = next(x for x in decls if re.search(r"= close\b|\bclose ", "\n".join(x)) and "spec" in "\n".join(x))
+    term = "\n".join(close)
+    params = parameters_of(crate)
+    invs, answers, used = [], [], {name_of(close)}
+    for fn, d in members.items():
+        labels, stem = Labels(d), d["stem"]
+        mu = next((n for n in named if n.startswith("μ-") and norm(n[2:]) == fn.lower()), None)
+        body = "\n".join(named[mu]).split("\n", 1)[1]
+        rhs = body.split(" =", 1)[1]
+        for k in range(len(params[fn]) - 1, -1, -1):
+            rhs = re.sub(rf"\ba\.{'1[.]' * k}0(?![.\d])", "l." + params[fn][k], rhs)
+        invs.append(f"abbrev pub decreases-{fn} : goal.decreases-{fn}\ndecreases-{fn} l ={rhs.rstrip()}\n")
+        used.add(mu)
+        at = re.search(rf"([\w-]+)-lts\.spec ", term)
+        spec = next(m for m in re.finditer(r"([\w-]+)[.]spec\b", term) if norm(re.sub("-lts$", "", m[1])) == fn.lower())
+        parts = groups(term[spec.end():])[3:]
+        loops, needs = d["loops"], d["needs"]
+        for (old, new), vs in loops:
+            ch = d["changed"][[o for (o, _), _ in loops].index(old)]
+            inv, dec = parts[0], parts[1]
+            parts = parts[2:]
+            for kind, n in (("invariant", inv), ("decreases", dec)):
+                b = "\n".join(named[n]).split("\n", 1)[1]
+                lhs, r = b.split(" =", 1)
+                ps = lhs.split()[1:]
+                paths = [("l.initial." if c else "l.") + v for v, c in zip(vs, ch)] + ["l." + v for v, c in zip(vs, ch) if c]
+                if len(ps) != len(paths):
+                    return f"{n}: {len(ps)} parameters for {paths}"
+                sub = {a: b2 for a, b2 in zip(ps, paths) if a != "_"}
+                toks = re.compile(r"(?<![\w'.′₀-])(" + "|".join(re.escape(q) for q in sorted(sub, key=len, reverse=True)) + r")(?![\w'₀-])")
+                r = toks.sub(lambda m: sub[m[1]], r)
+                invs.append(f"abbrev pub {kind}-{stem}{new} : goal.{kind}-{stem}{new}\n{kind}-{stem}{new} l ={r.rstrip()}\n")
+                used.add(n)
+        if len(parts) != len(needs):
+            return f"{fn}: {len(parts)} answers for {len(needs)} goals"
+        for a, (old, new) in zip(parts, needs):
+            m = re.match(r"\(λ[^.]*\. (.*)\)$", a, re.S)
+            if m:
+                if m[1].strip() != "search rules":
+                    answers.append(f"pub {stem}{new} : goal.{stem}{new}\n{stem}{new} t c = {flatten(m[1], labels)}\n")
+                continue
+            name = a.strip("()").split()[0]
+            if name not in named:
+                return f"{fn}: no answer {a}"
+            used.add(name)
+            lines = "\n".join(named[name]).rstrip().split("\n")
+            k = 1
+            while k < len(lines) and lines[k][:1].isspace():
+                k += 1
+            unf = []
+            while k < len(lines) and lines[k].startswith("unfolding"):
+                unf.append(lines[k])
+                k += 1
+            m = re.match(rf"{re.escape(name)}(.*?) =(.*)$", "\n".join(lines[k:]), re.S)
+            ps = [q for q in m[1].split() if q != "κs"]
+            if m[2].strip() == "search rules" and not unf:
+                continue
+            rhs = flatten(m[2], labels, ps[1] if len(ps) > 1 else "c")
+            own = next((v for f, v in CLAUSES.items() if f.startswith(crate + "::") and f.endswith("::" + fn)), None)
+            if own and norm(new).startswith("returns"):
+                rhs = recorded(rhs, own, ps[2:])
+            answers.append(f"pub {stem}{new} : goal.{stem}{new}\n" + "".join(u + "\n" for u in unf) + f"{stem}{new}{''.join(' ' + q for q in ps)} ={rhs.rstrip()}\n")
+    others = []
+    for x in decls:
+        n, t = name_of(x), "\n".join(x)
+        if n in used or n is None and not t.startswith("--"):
+            continue
+        if n and (re.search(r"-(at|below|claims)$", n) or n.startswith("μ-")):
+            continue
+        others.append((n, t.rstrip() + "\n"))
+    inv_text = "\n".join(invs)
+    ours = [t for n, t in others if n and re.search(rf"(?<![\w'-]){re.escape(n)}(?![\w'-])", inv_text)]
+    rest = [flatten(t, Labels(next(iter(members.values())))) for n, t in others if t not in ours]
+    folder, mod = os.path.dirname(path), f"Rattle.{crate}.proofs.{func}"
+    comment = [h for h in head if h.startswith("--")]
+    body = "\n".join([re.sub(r"^abbrev (?!pub)", "abbrev pub ", t) for t in ours] + invs)
+    open(os.path.join(folder, "Invariants.antt"), "w", encoding="utf-8").write(
+        "\n".join(["-- What the loops of this cycle of calls keep, and why loops and calls end."] + imports(head, body) + [f"use {mod}.Given as goal", ""]) + "\n" + body.rstrip() + "\n")
+    # The fact that the measure is t stood before the requires.
+    body = re.sub(r"(?<![\w'-])c\.requires\.1(?![\d])", "c.requires", "\n".join(rest + answers))
+    if "search rules" in body and not any(".{rules}" in h or ", rules" in h or "{rules," in h for h in head):
+        head.append("use Rattle.std.proofs.Common.{rules}")
+    open(os.path.join(folder, "Answers.antt"), "w", encoding="utf-8").write(
+        "\n".join(comment + imports(head, body) + [f"use {mod}.Goals as goal", ""]) + "\n" + body.rstrip() + "\n")
+    os.remove(path)
+    return None
+
+
 CLAUSES = clauses_of_sources()
 
 
@@ -401,6 +519,15 @@ def main():
         rel = os.path.relpath(folder, base)
         func = rel.replace(os.sep, ".")
         key = f"Rattle-{crate}-proofs.{func}.Lts"
+        members = {k.rsplit(".Lts-", 1)[1]: v for k, v in data.items() if k.startswith(f"Rattle-{crate}-proofs.{func}.Lts-")}
+        if members:
+            try:
+                said = cycle(os.path.join(folder, "Proof.antt"), crate, func, members)
+            except Exception as e:
+                said = f"{type(e).__name__}: {e}"
+            if said:
+                print(f"left: {rel}: {said}")
+            continue
         if key not in data:
             print(f"left: {rel}: no names")
             continue

@@ -29,7 +29,7 @@ pub fn defaults_short(s: &[u8], out: &mut [u8], ds: usize) -> bool
 
 // The length of a schema node whose defaults are all short, else 0: whoever walks on need not measure it. Only a union is
 // measured once it was walked, with the tables behind its variants.
-#[cycle(field_short_fields_short_short_len_variants_short)]
+#[cycle(shortness)]
 fn short_len(s: &[u8], out: &mut [u8], ds: usize) -> usize
     requires { SoundRead schema_sound (read_schema ds s.now) }
     ensures { ShortLen defaults_short (read_schema ds s.now) s.now result }
@@ -65,7 +65,7 @@ fn next(n: usize) -> usize
 }
 
 // The variants of a union.
-#[cycle(field_short_fields_short_short_len_variants_short)]
+#[cycle(shortness)]
 fn variants_short(s: &[u8], out: &mut [u8], ds: usize) -> bool
     requires { SoundRead schema_sound (read_schema ds s.now) × (get_or s.now 0 0 ≡ 10) }
     ensures { result ≡ test_read defaults_short (read_schema ds s.now) }
@@ -84,7 +84,7 @@ fn variants_short(s: &[u8], out: &mut [u8], ds: usize) -> bool
 }
 
 // The length of a record whose fields are all short, else 0.
-#[cycle(field_short_fields_short_short_len_variants_short)]
+#[cycle(shortness)]
 fn fields_short(s: &[u8], out: &mut [u8], ds: usize) -> usize
     requires { SoundRead schema_sound (read_schema ds s.now) × (get_or s.now 0 0 ≡ 11) }
     ensures { ShortLen defaults_short (read_schema ds s.now) s.now result }
@@ -103,7 +103,7 @@ fn fields_short(s: &[u8], out: &mut [u8], ds: usize) -> usize
 }
 
 // The length of a field that is short, else 0: the defaults inside its schema come first, and then its own.
-#[cycle(field_short_fields_short_short_len_variants_short)]
+#[cycle(shortness)]
 fn field_short(s: &[u8], out: &mut [u8], ds: usize) -> usize
     requires { SoundRead field_sound (read_field (read_schema ds) s.now) }
     ensures { ShortLen field_short (read_field (read_schema ds) s.now) s.now result }

@@ -15,7 +15,7 @@ use schema_parts::{leaf_check, tables_check};
 use text::{Len, text_len};
 
 // The schema node at the front of a part.
-#[cycle(content_check_field_check_fields_check_record_check_schema_check_union_check_variants_check)]
+#[cycle(checking)]
 pub fn schema_check(s: &[u8], depth: usize) -> Checked
     ensures { Checks schema_sound (read_schema depth s.now) s.now result }
 {
@@ -35,7 +35,7 @@ pub fn schema_check(s: &[u8], depth: usize) -> Checked
     Checked::Of(1 + m, ok)
 }
 
-#[cycle(content_check_field_check_fields_check_record_check_schema_check_union_check_variants_check)]
+#[cycle(checking)]
 fn content_check(s: &[u8], kind: u8, depth: usize) -> Checked
     ensures { Checks schema_sound (read_schema_content (read_schema depth) kind s.now) s.now result }
 {
@@ -55,7 +55,7 @@ fn content_check(s: &[u8], kind: u8, depth: usize) -> Checked
 }
 
 // Variants and tables.
-#[cycle(content_check_field_check_fields_check_record_check_schema_check_union_check_variants_check)]
+#[cycle(checking)]
 fn union_check(s: &[u8], depth: usize) -> Checked
     ensures { Checks schema_sound (read_schema_content (read_schema depth) Kind.Union s.now) s.now result }
 {
@@ -71,7 +71,7 @@ fn union_check(s: &[u8], depth: usize) -> Checked
 }
 
 // Variants, none of which is a union.
-#[cycle(content_check_field_check_fields_check_record_check_schema_check_union_check_variants_check)]
+#[cycle(checking)]
 fn variants_check(s: &[u8], depth: usize) -> Checked
     ensures { Checks no_unions (read_list (read_schema depth) s.now) s.now result }
 {
@@ -94,7 +94,7 @@ fn variants_check(s: &[u8], depth: usize) -> Checked
 }
 
 // Fields, each by itself and then their names.
-#[cycle(content_check_field_check_fields_check_record_check_schema_check_union_check_variants_check)]
+#[cycle(checking)]
 fn record_check(s: &[u8], depth: usize) -> Checked
     ensures { Checks schema_sound (read_schema_content (read_schema depth) Kind.Record s.now) s.now result }
 {
@@ -104,7 +104,7 @@ fn record_check(s: &[u8], depth: usize) -> Checked
     Checked::Of(m, both(ok, names_differ(s, depth)))
 }
 
-#[cycle(content_check_field_check_fields_check_record_check_schema_check_union_check_variants_check)]
+#[cycle(checking)]
 fn fields_check(s: &[u8], depth: usize) -> Checked
     ensures { Checks each_sound (read_list (read_field (read_schema depth)) s.now) s.now result }
 {
@@ -126,7 +126,7 @@ fn fields_check(s: &[u8], depth: usize) -> Checked
 }
 
 // Name, default and schema.
-#[cycle(content_check_field_check_fields_check_record_check_schema_check_union_check_variants_check)]
+#[cycle(checking)]
 fn field_check(s: &[u8], depth: usize) -> Checked
     ensures { Checks field_sound (read_field (read_schema depth) s.now) s.now result }
 {

@@ -12,7 +12,7 @@ use number::read2;
 use text::content;
 
 // The length of a schema node.
-#[cycle(content_skip_field_len_fields_skip_schema_len_union_skip_variants_skip)]
+#[cycle(skipping)]
 pub fn schema_len(s: &[u8], depth: usize) -> usize
     requires { Reads (read_schema depth s.now) }
     ensures { Spans (read_schema depth s.now) s.now result }
@@ -24,7 +24,7 @@ pub fn schema_len(s: &[u8], depth: usize) -> usize
     1 + content_skip(&s[1..], kind, depth - 1)
 }
 
-#[cycle(content_skip_field_len_fields_skip_schema_len_union_skip_variants_skip)]
+#[cycle(skipping)]
 fn content_skip(s: &[u8], kind: u8, depth: usize) -> usize
     requires { Reads (read_schema_content (read_schema depth) kind s.now) }
     ensures { Spans (read_schema_content (read_schema depth) kind s.now) s.now result }
@@ -48,7 +48,7 @@ fn content_skip(s: &[u8], kind: u8, depth: usize) -> usize
 }
 
 // Variants and tables.
-#[cycle(content_skip_field_len_fields_skip_schema_len_union_skip_variants_skip)]
+#[cycle(skipping)]
 fn union_skip(s: &[u8], depth: usize) -> usize
     requires { Reads (read_schema_content (read_schema depth) Kind.Union s.now) }
     ensures { Spans (read_schema_content (read_schema depth) Kind.Union s.now) s.now result }
@@ -57,7 +57,7 @@ fn union_skip(s: &[u8], depth: usize) -> usize
     a + tables_skip(&s[a..])
 }
 
-#[cycle(content_skip_field_len_fields_skip_schema_len_union_skip_variants_skip)]
+#[cycle(skipping)]
 fn variants_skip(s: &[u8], depth: usize) -> usize
     requires { Reads (read_list (read_schema depth) s.now) }
     ensures { Spans (read_list (read_schema depth) s.now) s.now result }
@@ -71,7 +71,7 @@ fn variants_skip(s: &[u8], depth: usize) -> usize
     at
 }
 
-#[cycle(content_skip_field_len_fields_skip_schema_len_union_skip_variants_skip)]
+#[cycle(skipping)]
 fn fields_skip(s: &[u8], depth: usize) -> usize
     requires { Reads (read_list (read_field (read_schema depth)) s.now) }
     ensures { Spans (read_list (read_field (read_schema depth)) s.now) s.now result }
@@ -86,7 +86,7 @@ fn fields_skip(s: &[u8], depth: usize) -> usize
 }
 
 // The length of a field: name, default and schema.
-#[cycle(content_skip_field_len_fields_skip_schema_len_union_skip_variants_skip)]
+#[cycle(skipping)]
 pub fn field_len(s: &[u8], depth: usize) -> usize
     requires { Reads (read_field (read_schema depth) s.now) }
     ensures { Spans (read_field (read_schema depth) s.now) s.now result }

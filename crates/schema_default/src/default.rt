@@ -25,7 +25,7 @@ fn outside_int(n: u64) -> bool
 }
 
 // Whether a value is of the kinds that a default may have.
-#[cycle(default_kinds_entries_kinds_items_kinds)]
+#[cycle(kinds)]
 fn default_kinds(s: &[u8], depth: usize) -> bool
     requires { Reads (read_value depth s.now) }
     ensures { (v : Value) (u : List ℕ) → read_value depth s.now ≡ some (v, u) → result ≡ default_kinds v }
@@ -49,7 +49,7 @@ fn default_kinds(s: &[u8], depth: usize) -> bool
     kind <= kind::INT
 }
 
-#[cycle(default_kinds_entries_kinds_items_kinds)]
+#[cycle(kinds)]
 fn items_kinds(s: &[u8], depth: usize) -> bool
     requires { Reads (read_list (read_value depth) s.now) }
     ensures { (vs : List Value) (u : List ℕ) → read_list (read_value depth) s.now ≡ some (vs, u) → result ≡ default_items (items_of vs) }
@@ -65,7 +65,7 @@ fn items_kinds(s: &[u8], depth: usize) -> bool
     ok
 }
 
-#[cycle(default_kinds_entries_kinds_items_kinds)]
+#[cycle(kinds)]
 fn entries_kinds(s: &[u8], depth: usize) -> bool
     requires { Reads (read_list (read_entry (read_value depth)) s.now) }
     ensures { (es : List (Text × Value)) (u : List ℕ) → read_list (read_entry (read_value depth)) s.now ≡ some (es, u) → result ≡ default_entries (entries_of es) }

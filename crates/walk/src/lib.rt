@@ -37,7 +37,7 @@ pub enum Step {
     Passed(usize, usize),
 }
 
-#[cycle(default_either_entry_fields_indexed_keyed_one_field_resolve_array_resolve_map_resolve_node_resolve_record_resolve_union_take_turn)]
+#[cycle(walking)]
 pub fn resolve_node(w: Walk, s: &[u8], v: &[u8], out: &mut [u8]) -> Answer
     requires { Node w s.now v.now }
     ensures { Wrote (on_both node_bytes (read_schema w.schema s.now) (read_value w.value v.now)) out.new result }
@@ -64,7 +64,7 @@ pub fn resolve_node(w: Walk, s: &[u8], v: &[u8], out: &mut [u8]) -> Answer
     resolve_leaf(s, &v[at..], out, inner.schema, inner.value)
 }
 
-#[cycle(default_either_entry_fields_indexed_keyed_one_field_resolve_array_resolve_map_resolve_node_resolve_record_resolve_union_take_turn)]
+#[cycle(walking)]
 fn resolve_array(w: Walk, s: &[u8], v: &[u8], out: &mut [u8]) -> Answer
     requires { NodeOf 8 w s.now v.now }
     ensures { Wrote (on_both peeled_bytes (read_schema w.schema s.now) (read_value w.value v.now)) out.new result }
@@ -95,7 +95,7 @@ fn resolve_array(w: Walk, s: &[u8], v: &[u8], out: &mut [u8]) -> Answer
     Answer::Accepted(at)
 }
 
-#[cycle(default_either_entry_fields_indexed_keyed_one_field_resolve_array_resolve_map_resolve_node_resolve_record_resolve_union_take_turn)]
+#[cycle(walking)]
 fn resolve_map(w: Walk, s: &[u8], v: &[u8], out: &mut [u8]) -> Answer
     requires { NodeOf 9 w s.now v.now }
     ensures { Wrote (on_both peeled_bytes (read_schema w.schema s.now) (read_value w.value v.now)) out.new result }
@@ -127,7 +127,7 @@ fn resolve_map(w: Walk, s: &[u8], v: &[u8], out: &mut [u8]) -> Answer
 }
 
 // A map's entry: its key, and its node resolved.
-#[cycle(default_either_entry_fields_indexed_keyed_one_field_resolve_array_resolve_map_resolve_node_resolve_record_resolve_union_take_turn)]
+#[cycle(walking)]
 fn entry(w: Walk, s: &[u8], v: &[u8], out: &mut [u8]) -> Answer
     requires { EntryNode w s.now v.now }
     ensures { Wrote (on_both entry_bytes (read_schema w.schema s.now) (read_entry (read_value w.value) v.now)) out.new result }
@@ -141,7 +141,7 @@ fn entry(w: Walk, s: &[u8], v: &[u8], out: &mut [u8]) -> Answer
     }
 }
 
-#[cycle(default_either_entry_fields_indexed_keyed_one_field_resolve_array_resolve_map_resolve_node_resolve_record_resolve_union_take_turn)]
+#[cycle(walking)]
 fn resolve_record(w: Walk, s: &[u8], v: &[u8], out: &mut [u8]) -> Answer
     requires { NodeOf 11 w s.now v.now }
     ensures { Wrote (on_both peeled_bytes (read_schema w.schema s.now) (read_value w.value v.now)) out.new result }
@@ -156,7 +156,7 @@ fn resolve_record(w: Walk, s: &[u8], v: &[u8], out: &mut [u8]) -> Answer
 }
 
 // A Record or a Map against a record schema. Where it has many entries, their names are marked, to be found at once.
-#[cycle(default_either_entry_fields_indexed_keyed_one_field_resolve_array_resolve_map_resolve_node_resolve_record_resolve_union_take_turn)]
+#[cycle(walking)]
 fn keyed(w: Walk, s: &[u8], v: &[u8], out: &mut [u8]) -> Answer
     requires { KeyedNode w s.now v.now }
     ensures { Wrote (on_both peeled_bytes (read_schema w.schema s.now) (read_value w.value v.now)) out.new result }
@@ -171,7 +171,7 @@ fn keyed(w: Walk, s: &[u8], v: &[u8], out: &mut [u8]) -> Answer
 }
 
 // The fields of a record schema, for a Record or a Map.
-#[cycle(default_either_entry_fields_indexed_keyed_one_field_resolve_array_resolve_map_resolve_node_resolve_record_resolve_union_take_turn)]
+#[cycle(walking)]
 fn fields(w: Walk, s: &[u8], v: &[u8], out: &mut [u8], names: &[u16], marked: bool) -> Answer
     requires { FieldsNode w s.now v.now marked names.now }
     ensures { Wrote (on_both peeled_bytes (read_schema w.schema s.now) (read_value w.value v.now)) out.new result }
@@ -200,7 +200,7 @@ fn fields(w: Walk, s: &[u8], v: &[u8], out: &mut [u8], names: &[u16], marked: bo
 }
 
 // One field: its name, and the last value under it or its default.
-#[cycle(default_either_entry_fields_indexed_keyed_one_field_resolve_array_resolve_map_resolve_node_resolve_record_resolve_union_take_turn)]
+#[cycle(walking)]
 fn one_field(w: Walk, s: &[u8], v: &[u8], out: &mut [u8], names: &[u16], marked: bool) -> Answer
     requires { FieldNode w s.now v.now marked names.now }
     ensures { Wrote (on_both field_bytes (read_field (read_schema w.schema) s.now) (read_value w.value v.now)) out.new result }
@@ -236,7 +236,7 @@ fn one_field(w: Walk, s: &[u8], v: &[u8], out: &mut [u8], names: &[u16], marked:
 }
 
 // A field's default: in a union field it goes to the first variant, and the union is resolved anew.
-#[cycle(default_either_entry_fields_indexed_keyed_one_field_resolve_array_resolve_map_resolve_node_resolve_record_resolve_union_take_turn)]
+#[cycle(walking)]
 fn default(w: Walk, s: &[u8], d: &[u8], out: &mut [u8]) -> Answer
     requires { ReadyDefault w.schema s.now d.now }
     ensures { Wrote (on_both default_bytes (read_schema w.schema s.now) (read_value 16 d.now)) out.new result }
@@ -275,7 +275,7 @@ fn default(w: Walk, s: &[u8], d: &[u8], out: &mut [u8]) -> Answer
 }
 
 // A union: its variants have their turns until one is the answer.
-#[cycle(default_either_entry_fields_indexed_keyed_one_field_resolve_array_resolve_map_resolve_node_resolve_record_resolve_union_take_turn)]
+#[cycle(walking)]
 fn resolve_union(w: Walk, s: &[u8], v: &[u8], out: &mut [u8]) -> Answer
     requires { NodeOf 10 w s.now v.now }
     ensures { Wrote (on_both peeled_bytes (read_schema w.schema s.now) (read_value w.value v.now)) out.new result }
@@ -305,7 +305,7 @@ fn resolve_union(w: Walk, s: &[u8], v: &[u8], out: &mut [u8]) -> Answer
 
 // One turn: the variant that is due is tried, and is the answer if it stands and no other comes before it. Of the kind table's
 // variant the refusal is the answer too, unless it is an Array or a Map.
-#[cycle(default_either_entry_fields_indexed_keyed_one_field_resolve_array_resolve_map_resolve_node_resolve_record_resolve_union_take_turn)]
+#[cycle(walking)]
 fn take_turn(w: Walk, s: &[u8], v: &[u8], out: &mut [u8], way: Way, turn: Turn, spot: Spot) -> Step
     requires { Turning w s.now v.now way turn spot.position spot.at }
     ensures { Steps w s.now v.now way turn out.new result }
@@ -335,7 +335,7 @@ fn take_turn(w: Walk, s: &[u8], v: &[u8], out: &mut [u8], way: Way, turn: Turn, 
 }
 
 // A variant, its result written behind the index i.
-#[cycle(default_either_entry_fields_indexed_keyed_one_field_resolve_array_resolve_map_resolve_node_resolve_record_resolve_union_take_turn)]
+#[cycle(walking)]
 fn indexed(w: Walk, s: &[u8], v: &[u8], out: &mut [u8], i: usize) -> Answer
     requires { VariantNode w s.now v.now i }
     ensures { Wrote (on_both (indexed_bytes i) (read_schema w.schema s.now) (read_value w.value v.now)) out.new result }
@@ -348,7 +348,7 @@ fn indexed(w: Walk, s: &[u8], v: &[u8], out: &mut [u8], i: usize) -> Answer
 }
 
 // The kind table's variant u, where the named one i behind it resolves: i is taken only if u must be tried and does not stand.
-#[cycle(default_either_entry_fields_indexed_keyed_one_field_resolve_array_resolve_map_resolve_node_resolve_record_resolve_union_take_turn)]
+#[cycle(walking)]
 fn either(w: Walk, s: &[u8], v: &[u8], out: &mut [u8], u: usize, i: usize) -> Answer
     requires { EitherNode w s.now v.now u i }
     ensures { Wrote (on_both peeled_bytes (read_schema w.schema s.now) (read_value w.value v.now)) out.new result }

@@ -1,0 +1,11 @@
+-- A NaN's bits are above the infinity's, the sign clear; any other Double is written.
+use borrow.Author.Tests.{lt-ltb, le-ltb}
+use Rattle.types.proofs.Contents.{double-content}
+use Rattle.casts.proofs.FloatLaws.{nan-refused, number-built}
+use Rattle.casts.proofs.put_double.Goals as goal
+
+pub returns-then-b-gt9218868437227405312 : goal.returns-then-b-gt9218868437227405312
+returns-then-b-gt9218868437227405312 c = nan-refused 5 _ _ (lt-ltb _ _ c.if-b-gt9218868437227405312.true) _
+
+pub returns : goal.returns
+returns c = number-built 5 8 _ _ double-content (le-ltb _ _ c.if-b-gt9218868437227405312.false) _ _ c.put_node8.ensures

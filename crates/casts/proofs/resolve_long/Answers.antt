@@ -1,0 +1,22 @@
+-- A number or a time is converted as a scalar, and any other kind is refused.
+use native.Mathlib.Omega.{arith}
+use mathlib.Core.Path.{sym, ◌∙◌}
+use Rattle.number.proofs.Laws.{get_or-all_bytes}
+use Rattle.frame.proofs.ValueNodes.{value_there}
+use Rattle.scalar.specs.Scalars.{long_cast}
+use Rattle.types.specs.Types.{resolve_long}
+use Rattle.types.proofs.NodeLaws.{kind-refused}
+use Rattle.casts.proofs.CastLaws.{cast-outcome, read_answer, long-cast, long-other}
+use Rattle.casts.proofs.resolve_long.Goals as goal
+
+pub bounds-v-0 : goal.bounds-v-0
+bounds-v-0 c = (value_there _ _ c.requires).1
+
+pub scalar_at-requires : goal.scalar_at-requires
+scalar_at-requires c = (c.requires, sym c.is_scalar.ensures ∙ c.if-is_scalar.true)
+
+pub returns-then-is_scalar : goal.returns-then-is_scalar
+returns-then-is_scalar c = read_answer _ _ resolve_long _ _ _ c.requires (cast-outcome _ _ c.requires (sym c.is_scalar.ensures ∙ c.if-is_scalar.true) (get_or-all_bytes _ (λ i. omega (arith, c.type_inv.v i))) resolve_long long_cast long-cast _ _ c.scalar_at.ensures c.to_long.ensures) c.put_cast.ensures
+
+pub returns : goal.returns
+returns c = kind-refused resolve_long _ _ c.requires (get_or-all_bytes _ (λ i. omega (arith, c.type_inv.v i))) 6 (long-other _ (sym c.is_scalar.ensures ∙ c.if-is_scalar.false)) _

@@ -1,0 +1,34 @@
+-- `octets::resolve_uuid_bytes` meets its contract.
+use native.Mathlib.Omega.{arith}
+use Rattle.number.proofs.Laws.{get_or-all_bytes}
+use Rattle.frame.specs.Tree.{UuidForm, kind_of, octets}
+use Rattle.frame.proofs.ValueNodes.{value_there}
+use Rattle.types.specs.Types.{resolve_uuid}
+use Rattle.types.proofs.Contents.{bytes-content, uuid-content}
+use Rattle.types.proofs.NodeLaws.{kind-refused}
+use Rattle.types.proofs.PartLaws.{counted-reads, plain-node, wrote-plain, on-counted, on-plain}
+use Rattle.types.proofs.OctetLaws.{uuid-bytes-other}
+use Rattle.octets.proofs.resolve_uuid_bytes.Goals as goal
+
+pub bounds-v-0 : goal.bounds-v-0
+bounds-v-0 c = (value_there _ _ c.requires).1
+
+pub slice_bounds-put_plain-end : goal.slice_bounds-put_plain-end
+slice_bounds-put_plain-end c = (plain-node _ _ c.requires 15 16 uuid-content c.if-v-eq-UUID.true).0
+
+pub returns-then-v-eq-UUID : goal.returns-then-v-eq-UUID
+unfolding resolve_uuid kind_of octets
+returns-then-v-eq-UUID c = on-plain (resolve_uuid UuidForm.bytes) _ _ c.requires 15 16 _ _ uuid-content c.if-v-eq-UUID.true (wrote-plain 15 16 _ _ _ uuid-content c.put_plain.ensures)
+
+pub bounds-v-0-2 : goal.bounds-v-0-2
+bounds-v-0-2 c = (value_there _ _ c.requires).1
+
+pub content-requires : goal.content-requires
+content-requires c = counted-reads _ _ c.requires 6 bytes-content c.if-v-eq-BYTES.true
+
+pub returns-then-v-eq-BYTES : goal.returns-then-v-eq-BYTES
+unfolding resolve_uuid kind_of octets
+returns-then-v-eq-BYTES c = on-counted (resolve_uuid UuidForm.bytes) _ _ c.requires 6 _ _ _ bytes-content c.if-v-eq-BYTES.true c.content.ensures c.uuid_of.ensures
+
+pub returns : goal.returns
+returns c = kind-refused (resolve_uuid UuidForm.bytes) _ _ c.requires (get_or-all_bytes c.args.v.now (λ i. omega (arith, c.type_inv.v i))) 6 (λ w e. uuid-bytes-other _ w e c.if-v-eq-UUID.false c.if-v-eq-BYTES.false) _
