@@ -14,7 +14,7 @@ use Rattle.text.proofs.OrderLaws.{Below-trans, Below→≢}
 use Rattle.frame.specs.Kind
 use Rattle.frame.specs.Tree.{Value, Entries, Schema, Variants, no_entries, entry, variant, peel, schema_kind}
 use Rattle.frame.specs.Sound.{keys_rise, rising, past_key, schema_sound}
-use Rattle.frame.specs.Faults.{BelowAll, one_more, Rises, key, MapIn, itself}
+use Rattle.frame.specs.Faults.{BelowAll, none_left, one_more, Rises, key, MapIn, itself}
 use Rattle.frame.proofs.KeyLaws.{keys-rise}
 use Rattle.frame.proofs.SoundLaws.{sound-union}
 use Rattle.frame.proofs.FaultLaws.{variant-sound, field-sound}
@@ -30,6 +30,7 @@ use Rattle.avro.proofs.WalkSentences.{FirstRefusal, entry_outcomes, map-refused,
 below-under : {n k : Text} {v : Value} {es : Entries} → BelowAll n es → Under k v es → Below n k
 below-under (one_more b r) this_entry = b
 below-under (one_more b r) (later_entry u) = below-under r u
+below-under {v = v} (none_left {k = k}) x = elim x [ ]
 
 none-lower : {n k : Text} {v w : Value} {es : Entries} → BelowAll n es → Under k w (entry n v es) → Below k n → ⊥
 none-lower b this_entry l = Below→≢ l refl

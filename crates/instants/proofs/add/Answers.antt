@@ -1,0 +1,30 @@
+-- `instants::add` meets its contract: the sum handed out, or its refusal.
+use mathlib.Core.Path.{sym, ap, ◌∙◌}
+use mathlib.Core.List.{List}
+use lib.ListN.{length}
+use Prim.Native.Nat.{ℕ}
+use mir.Syntax.{w32}
+use mir.ValLaws.{to_z-of_z}
+use Rattle.base.specs.Base.{Result}
+use Rattle.buffer.specs.After.{code_for, buffer_after}
+use Rattle.instants.specs.Frames.{sum_for}
+use Rattle.instants.proofs.AnswerLaws.{told-stop, sum_to, sum-refused, sum_for-to, sum_for-refused}
+use Rattle.instants.proofs.add.Goals as goal
+
+pub returns-in-To : goal.returns-in-To
+returns-in-To c =
+    let a = c.args in
+    let i = a.instant.now in
+    let d = a.duration.now in
+    let l = length a.result.now in
+    let h = c.hand_out in
+    let q = sum_for-to i d l _ (sum_to _ _ (sym c.frame_sum.ensures ∙ c.in-To.is)) in
+    record { answer = to_z-of_z w32 h.result (record { sfits = h.type_inv }) ∙ h.ensures.0 ∙ ap code_for (sym q); contents = h.ensures.1 ∙ ap (λ (r : Result (List ℕ)). buffer_after r a.result.now) (sym q) }
+
+pub returns-in-Refused : goal.returns-in-Refused
+returns-in-Refused c =
+    let a = c.args in
+    let i = a.instant.now in
+    let d = a.duration.now in
+    told-stop (sum_for i d (length a.result.now)) _ a.result.now _ (sum_for-refused i d (length a.result.now) _ (sum-refused _ _ (sym c.frame_sum.ensures ∙ c.inlet all = -Refused.is))) (to_z-of_z w32 c.negated.result (record { sfits = c.negated.type_inv }) ∙ c.negated.ensures) in
+    record { answer = all.0; contents = all.1 }

@@ -1,0 +1,32 @@
+-- `instants::civil` meets its contract: three slots, or 18.
+use native.Mathlib.Omega.{arith}
+use mathlib.Core.Path.{◌∙◌}
+use lib.ListN.{length-set}
+use mir.Syntax.{w32}
+use mir.ValLaws.{to_z-of_z}
+use Rattle.instants.proofs.AnswerLaws.{month-fits, day-fits, civil-short, civil-stored}
+use Rattle.instants.proofs.civil.Goals as goal
+
+pub returns-then-slots-lt3 : goal.returns-then-slots-lt3
+returns-then-slots-lt3 c =
+    let a = c.args in
+    let all = civil-short a.date _ a.slots.now c.if-slots-lt3.true (to_z-of_z w32 c.negated.result (record { sfits = c.negated.type_inv }) ∙ c.negated.ensures) in
+    record { answer = all.0; contents = all.1 }
+
+pub overflow_cast-month : goal.overflow_cast-month
+overflow_cast-month c = month-fits c.civil_of-c.result c.args.date c.ranges.date c.civil_of-c.ensures
+
+pub overflow_cast-day : goal.overflow_cast-day
+overflow_cast-day c = day-fits c.civil_of-c.result c.args.date c.ranges.date c.civil_of-c.ensures
+
+pub bounds-slots-1 : goal.bounds-slots-1
+bounds-slots-1 c = rw length-set (omega (arith, c.if-slots-lt3.false))
+
+pub bounds-slots-2 : goal.bounds-slots-2
+bounds-slots-2 c = rw (length-set, length-set) (omega (arith, c.if-slots-lt3.false))
+
+pub returns : goal.returns
+returns c =
+    let r = c.civil_of-c in
+    let all = civil-stored r.result c.args.date c.args.slots.now c.ranges.date (record { sfits = c.type_inv.c.0.1 }) r.ensures c.if-slots-lt3.false in
+    record { answer = all.0; contents = all.1 }
