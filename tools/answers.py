@@ -176,6 +176,14 @@ def flatten(text, labels, var="c"):
             break
         alias = m[1]
         text = text[:m.start()] + re.sub(rf"(?<![\w.'-]){alias}(?![\w'-])", var, text[m.end():])
+    # So is an alias of a step.
+    while True:
+        m = re.search(rf"let (\w+) = {var}((?:\.before)*\.(?!args\b|requires\b)[\w-]+) in\b[ ]*\n?[ ]*", text)
+        if not m:
+            break
+        text = text[:m.start()] + re.sub(rf"(?<![\w.'-]){m[1]}(?![\w'-])", var + m[2], text[m.end():])
+    text = re.sub(r"(?<![\w.'-])a\.result\.now", "a.res.now", text).replace(".args.result", ".args.res")
+
     def one(m):
         if m[1] != var:
             return m[0]
@@ -197,6 +205,7 @@ def flatten(text, labels, var="c"):
     text = re.sub(r"\(?sym \(not-not [^()\s]+\) ∙ ap not (c\.if-not-[^\s(),;]+\.(?:true|false))\)", r"\1", text)
     # That what a match binds has its type's range, the search finds.
     text = re.sub(rf"{var}\.[\w-]*known_told[\w-]*\.given\.0\.1(?![\w.-])", "(search rules)", text)
+    text = re.sub(rf"{var}\.type_inv\.\w+\.0\.1(?![\w.-])", "(search rules)", text)
     text = re.sub(r"= \(search rules\)", "= search rules", text)
     text = re.sub(r"\b(tie|lts)\.((?:Then|Else|After|In|At)[\w-]*)", place, text)
     return text
@@ -257,7 +266,7 @@ def recorded(rhs, names, binders):
                 break
             k -= 1
         before, inner = rhs[:k], rhs[k + 1:-1]
-        if before.strip() == "" or re.search(r"\bin\s*$", before):
+        if before.strip() == "" or re.search(r"\sin\s*$", before):
             parts = tuple_parts(inner)
             while len(parts) < len(names) and parts[-1].strip().startswith("("):
                 more = tuple_parts(parts[-1].strip()[1:-1])
@@ -266,7 +275,7 @@ def recorded(rhs, names, binders):
                 parts = parts[:-1] + more
             if len(parts) == len(names):
                 return before + "record { " + "; ".join(f"{n} = {v.strip()}" for n, v in zip(names, parts)) + " }"
-    m = re.match(r"(.*\bin\b\s*\n?\s*)(.*)$", rhs, re.S)
+    m = re.match(r"(.*\sin\s+)(.*)$", rhs, re.S)
     head, last = (m[1], m[2]) if m and "let" in m[1] else (" ", rhs.strip())
     return f"{head}let all = {last} in\n    record {{ " + "; ".join(f"{n} = all.{'1.' * k}{'0' if k < len(names) - 1 else ''}".rstrip(".") for k, n in enumerate(names)) + " }"
 
@@ -497,7 +506,8 @@ def cycle(path, crate, func, members):
     open(os.path.join(folder, "Invariants.antt"), "w", encoding="utf-8").write(
         "\n".join(["-- What the loops of this cycle of calls keep, and why loops and calls end."] + imports(head, body) + [f"use {mod}.Given as goal", ""]) + "\n" + body.rstrip() + "\n")
     # The fact that the measure is t stood before the requires.
-    body = re.sub(r"(?<![\w'-])c\.requires\.1(?![\d])", "c.requires", "\n".join(rest + answers))
+    body = re.sub(r"(?<![\w'-])c\.requires\.0, ", "", "\n".join(rest + answers)).replace("omega (arith, c.requires.0)", "omega arith")
+    body = re.sub(r"(?<![\w'-])c\.requires\.1(?![\d])", "c.requires", body)
     if "search rules" in body and not any(".{rules}" in h or ", rules" in h or "{rules," in h for h in head):
         head.append("use Rattle.std.proofs.Common.{rules}")
     open(os.path.join(folder, "Answers.antt"), "w", encoding="utf-8").write(

@@ -31,11 +31,11 @@ use Rattle.calendar.specs.Instants.{sum, window_holds}
 use Rattle.instants.specs.Frames.{instant_in, duration_in, frame_sum, held_for}
 
 -- ---- the answer of a test that the code turns round
-pub denied : {a b : Bool} → a ≡ b → not a ≡ true → b ≡ false
-denied {a} {b} e h = sym e ∙ sym (not-not a) ∙ ap not h
+pub denied : {a b : Bool} → a ≡ b → a ≡ false → b ≡ false
+denied e h = sym e ∙ h
 
-pub granted : {a b : Bool} → a ≡ b → not a ≡ false → b ≡ true
-granted {a} {b} e h = sym e ∙ sym (not-not a) ∙ ap not h
+pub granted : {a b : Bool} → a ≡ b → a ≡ true → b ≡ true
+granted e h = sym e ∙ h
 
 -- ---- an instant, and a Duration, in a node
 pub scalar-instant : (v : List ℕ) (x : Value) → kind_of x ≡ get_or v 0 0 → is_scalar (get_or v 0 0) ≡ true → scalar_of x ≡ instant_in x

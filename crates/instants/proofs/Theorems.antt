@@ -89,6 +89,17 @@ reads_as {s = TimestampNanos z} (nanos f) =
       checked = checked-frame 0x15 (to_twos 64 z) (lt→ltb (to_twos 64 z) (256 ^ 8) (bits-< 64 (2 ^ 63) refl refl z f)) (frame-short (TimestampNanos z));
       instant = ap TimestampNanos (bits_back 64 (2 ^ 63) refl refl z f);
     }
+reads_as {s = Int _} x'' = elim x'' [ ]
+reads_as {s = Long _} x3 = elim x3 [ ]
+reads_as {s = Float _} x4 = elim x4 [ ]
+reads_as {s = FloatNan _} x5 = elim x5 [ ]
+reads_as {s = Double _} x6 = elim x6 [ ]
+reads_as {s = DoubleNan _} x7 = elim x7 [ ]
+reads_as {s = TimeMillis _} x8 = elim x8 [ ]
+reads_as {s = TimeMicros _} x9 = elim x9 [ ]
+reads_as {s = LocalTimestampMillis _} x10 = elim x10 [ ]
+reads_as {s = LocalTimestampMicros _} x11 = elim x11 [ ]
+reads_as {s = LocalTimestampNanos _} x12 = elim x12 [ ]
 
 -- ---- and that of a Duration as that Duration
 pub record Parts (d : Duration) : Type 0 where

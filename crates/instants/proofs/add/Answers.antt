@@ -16,15 +16,14 @@ returns-in-To c =
     let a = c.args in
     let i = a.instant.now in
     let d = a.duration.now in
-    let l = length a.result.now in
-    let h = c.hand_out in
+    let l = length a.res.now in
     let q = sum_for-to i d l _ (sum_to _ _ (sym c.frame_sum.ensures ∙ c.in-To.is)) in
-    record { answer = to_z-of_z w32 h.result (record { sfits = h.type_inv }) ∙ h.ensures.0 ∙ ap code_for (sym q); contents = h.ensures.1 ∙ ap (λ (r : Result (List ℕ)). buffer_after r a.result.now) (sym q) }
+    record { answer = to_z-of_z w32 c.hand_out.result (record { sfits = c.hand_out.type_inv }) ∙ c.hand_out.ensures.answer ∙ ap code_for (sym q); contents = c.hand_out.ensures.contents ∙ ap (λ (r : Result (List ℕ)). buffer_after r a.res.now) (sym q) }
 
 pub returns-in-Refused : goal.returns-in-Refused
 returns-in-Refused c =
     let a = c.args in
     let i = a.instant.now in
     let d = a.duration.now in
-    told-stop (sum_for i d (length a.result.now)) _ a.result.now _ (sum_for-refused i d (length a.result.now) _ (sum-refused _ _ (sym c.frame_sum.ensures ∙ c.inlet all = -Refused.is))) (to_z-of_z w32 c.negated.result (record { sfits = c.negated.type_inv }) ∙ c.negated.ensures) in
+    let all = told-stop (sum_for i d (length a.res.now)) _ a.res.now _ (sum_for-refused i d (length a.res.now) _ (sum-refused _ _ (sym c.frame_sum.ensures ∙ c.in-Refused.is))) (to_z-of_z w32 c.negated.result (record { sfits = c.negated.type_inv }) ∙ c.negated.ensures) in
     record { answer = all.0; contents = all.1 }

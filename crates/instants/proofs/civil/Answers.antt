@@ -5,6 +5,7 @@ use lib.ListN.{length-set}
 use mir.Syntax.{w32}
 use mir.ValLaws.{to_z-of_z}
 use Rattle.instants.proofs.AnswerLaws.{month-fits, day-fits, civil-short, civil-stored}
+use borrow.Author.Rules.{rules}
 use Rattle.instants.proofs.civil.Goals as goal
 
 pub returns-then-slots-lt3 : goal.returns-then-slots-lt3
@@ -26,7 +27,5 @@ pub bounds-slots-2 : goal.bounds-slots-2
 bounds-slots-2 c = rw (length-set, length-set) (omega (arith, c.if-slots-lt3.false))
 
 pub returns : goal.returns
-returns c =
-    let r = c.civil_of-c in
-    let all = civil-stored r.result c.args.date c.args.slots.now c.ranges.date (record { sfits = c.type_inv.c.0.1 }) r.ensures c.if-slots-lt3.false in
+returns c = let all = civil-stored c.civil_of-c.result c.args.date c.args.slots.now c.ranges.date (record { sfits = search rules }) c.civil_of-c.ensures c.if-slots-lt3.false in
     record { answer = all.0; contents = all.1 }

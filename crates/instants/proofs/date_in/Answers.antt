@@ -23,5 +23,4 @@ overflow_cast-day c = not-below c.args.day c.ranges.day (told-sign c.args.day fa
 pub returns : goal.returns
 returns c =
     let a = c.args in
-    let f = c.ranges in
-    c.date_of.ensures ∙ date-told a.year a.month a.day f.year f.month f.day (told-sign a.month false f.month c.if-month-lt0.false) (told-sign a.day false f.day c.if-day-lt0.false)
+    c.date_of.ensures ∙ date-told a.year a.month a.day c.ranges.year c.ranges.month c.ranges.day (told-sign a.month false c.ranges.month c.if-month-lt0.false) (told-sign a.day false c.ranges.day c.if-day-lt0.false)

@@ -42,7 +42,7 @@ pub default_kinds-overflow_sub-depth : goal.default_kinds-overflow_sub-depth
 default_kinds-overflow_sub-depth t c = omega (arith, (value_there _ _ c.requires).0)
 
 pub default_kinds-items_kinds-requires : goal.default_kinds-items_kinds-requires
-default_kinds-items_kinds-requires t c = (omega (arith, c.requires.0, (value_there _ _ c.requires).0), rw part_to_end (array-reads _ _ c.requires c.if-kind-eq-ARRAY.true))
+default_kinds-items_kinds-requires t c = (omega (arith, (value_there _ _ c.requires).0), rw part_to_end (array-reads _ _ c.requires c.if-kind-eq-ARRAY.true))
 
 pub default_kinds-returns-then-kind-eq-ARRAY : goal.default_kinds-returns-then-kind-eq-ARRAY
 default_kinds-returns-then-kind-eq-ARRAY t c = array-says _ _ c.requires c.if-kind-eq-ARRAY.true _ (rw part_to_end at c.items_kinds.ensures)
@@ -57,7 +57,7 @@ pub default_kinds-overflow_sub-depth-then-kind-eq-MAP : goal.default_kinds-overf
 default_kinds-overflow_sub-depth-then-kind-eq-MAP t c = omega (arith, (value_there _ _ c.requires).0)
 
 pub default_kinds-entries_kinds-requires : goal.default_kinds-entries_kinds-requires
-default_kinds-entries_kinds-requires t c = (omega (arith, c.requires.0, (value_there _ _ c.requires).0), rw part_to_end (map-reads _ _ c.requires c.if-kind-eq-MAP.true))
+default_kinds-entries_kinds-requires t c = (omega (arith, (value_there _ _ c.requires).0), rw part_to_end (map-reads _ _ c.requires c.if-kind-eq-MAP.true))
 
 pub default_kinds-returns-then-kind-eq-MAP : goal.default_kinds-returns-then-kind-eq-MAP
 default_kinds-returns-then-kind-eq-MAP t c = map-says _ _ c.requires c.if-kind-eq-MAP.true _ (rw part_to_end at c.entries_kinds.ensures)
@@ -96,7 +96,7 @@ pub entries_kinds-slice_bounds-default_kinds-start : goal.entries_kinds-slice_bo
 entries_kinds-slice_bounds-default_kinds-start t c = omega (arith, simp length-drop at (rw part_to_end at c.content-key.ensures.1.0), c.loop-left.invariant.inside)
 
 pub entries_kinds-default_kinds-requires : goal.entries_kinds-default_kinds-requires
-entries_kinds-default_kinds-requires t c = (omega (arith, c.requires.0), rw part_to_end (entry-reads _ _ _ _ c.loop-left.ok c.loop-left.invariant c.loop-left-test.true _ (rw part_to_end at c.content-key.ensures.0)))
+entries_kinds-default_kinds-requires t c = (omega arith, rw part_to_end (entry-reads _ _ _ _ c.loop-left.ok c.loop-left.invariant c.loop-left-test.true _ (rw part_to_end at c.content-key.ensures.0)))
 
 pub entries_kinds-slice_bounds-value_len-count : goal.entries_kinds-slice_bounds-value_len-count
 entries_kinds-slice_bounds-value_len-count t c = omega (arith, simp length-drop at (rw part_to_end at c.content-key.ensures.1.0), c.loop-left.invariant.inside)
@@ -133,7 +133,7 @@ pub items_kinds-slice_bounds-default_kinds-start : goal.items_kinds-slice_bounds
 items_kinds-slice_bounds-default_kinds-start t c = omega (arith, c.loop-left.invariant.inside)
 
 pub items_kinds-default_kinds-requires : goal.items_kinds-default_kinds-requires
-items_kinds-default_kinds-requires t c = (omega (arith, c.requires.0), rw part_to_end (left-reads _ _ _ _ _ _ _ c.loop-left.invariant c.loop-left-test.true))
+items_kinds-default_kinds-requires t c = (omega arith, rw part_to_end (left-reads _ _ _ _ _ _ _ c.loop-left.invariant c.loop-left-test.true))
 
 pub items_kinds-slice_bounds-value_len-count : goal.items_kinds-slice_bounds-value_len-count
 items_kinds-slice_bounds-value_len-count t c = omega (arith, c.loop-left.invariant.inside)
