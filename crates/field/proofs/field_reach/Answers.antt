@@ -1,0 +1,13 @@
+-- `field::field_reach` meets its contract.
+use native.Mathlib.Omega.{arith}
+use Rattle.frame.proofs.Measuring.{spans-le}
+use Rattle.field.proofs.field_reach.Goals as goal
+
+pub returns-then-left-le1 : goal.returns-then-left-le1
+returns-then-left-le1 c = (omega arith, λ h. absurd (omega (arith, h, c.if-left-le1.true)))
+
+pub field_len-requires : goal.field_len-requires
+field_len-requires c = c.requires
+
+pub returns : goal.returns
+returns c = (spans-le _ _ _ c.field_len.ensures, λ h. c.field_len.ensures)
