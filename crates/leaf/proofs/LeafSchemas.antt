@@ -215,7 +215,7 @@ module _ (ds : ℕ) (s : List ℕ) (p : Reads (read_schema ds s)) (y : Read Valu
   enum-outcome e =
       let i = enum-tree ds s p e p.0 p.1.0 p.1.1 in
       let q : read_schema ds s ≡ some (Schema.Enum i.0 i.1.0, p.1.0) = p.1.1 ∙ ap (λ t. some (t, p.1.0)) i.1.1 in
-      outcome _ _ _ _ y q (λ w. refl) ∙ rw q (both_some _ _ y)
+      outcome _ _ _ _ y q (λ w. refl) ∙ rw q (both_some {A = Schema} (λ t w. encoded (resolve_enum_at t w)) (Schema.Enum i.0 i.1.0, p.1.0) y)
 
 -- ---- kinds
 
