@@ -437,7 +437,7 @@ def cycle(path, crate, func, members):
         body = "\n".join(named[mu]).split("\n", 1)[1]
         rhs = body.split(" =", 1)[1]
         for k in range(len(params[fn]) - 1, -1, -1):
-            rhs = re.sub(rf"\ba\.{'1[.]' * k}0(?![.\d])", "l." + params[fn][k], rhs)
+            rhs = re.sub(rf"\ba\.{'1[.]' * k}0(?!\d)", "l." + params[fn][k], rhs)
         invs.append(f"abbrev pub decreases-{fn} : goal.decreases-{fn}\ndecreases-{fn} l ={rhs.rstrip()}\n")
         used.add(mu)
         at = re.search(rf"([\w-]+)-lts\.spec ", term)
@@ -494,7 +494,7 @@ def cycle(path, crate, func, members):
         n, t = name_of(x), "\n".join(x)
         if n in used or n is None and not t.startswith("--"):
             continue
-        if n and (re.search(r"-(at|below|claims)$", n) or n.startswith("μ-")):
+        if n and (re.search(r"-kinds\.ps\b|-lts\.Claims\b", t) or n.startswith("μ-")):
             continue
         others.append((n, t.rstrip() + "\n"))
     inv_text = "\n".join(invs)
