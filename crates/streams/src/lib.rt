@@ -3,5 +3,6 @@
 
 pub mod calls;
 pub mod input;
+mod message;
 pub mod output;
 pub mod tally;

@@ -1,20 +1,25 @@
 // Output of the programs. The first write that fails ends it: a message goes to standard error, and nothing more to standard output.
 // Each function takes and answers whether every write so far went through, so that no program goes on by mistake.
-ghost use Rattle.std.specs.Prelude.{◌≡◌, false, ltb};
+ghost use Rattle.std.specs.Prelude.{◌≡◌, ◌≤◌, false, length, ltb};
 
-use crate::calls;
 use crate::calls::Step;
+use crate::{calls, message};
+use std::env::FillError;
+use std::fmt::Display;
+use std::io::{Cursor, Write};
+use std::rt::{Env, Files};
 
 // Writes all of the bytes; whether it could.
-fn written(bytes: &[u8]) -> bool {
+fn written(rt: &(impl Print + Files + Eprint), bytes: &[u8]) -> bool {
     let mut at: usize = 0;
     while at < bytes.len() {
-        match calls::write(&bytes[at..]) {
+        let call = calls::write(rt, &bytes[at..]);
+        match call.step {
             Step::Took(n) => {
                 at += n;
             }
             _ => {
-                os::fail(b"standard output");
+                message::failed(rt, "standard output", call.error);
                 return false;
             }
         }
@@ -22,39 +27,63 @@ fn written(bytes: &[u8]) -> bool {
     true
 }
 
-pub fn put(ok: bool, bytes: &[u8]) -> bool
+pub fn put(rt: &(impl Print + Files + Eprint), ok: bool, bytes: &[u8]) -> bool
     ensures { ok ≡ false → result ≡ false }
 {
     if ok {
-        return written(bytes);
+        return written(rt, bytes);
     }
     false
 }
 
-pub fn put_decimal(ok: bool, n: u64) -> bool
+pub fn put_decimal(rt: &(impl Print + Files + Eprint), ok: bool, n: u64) -> bool
     ensures { ok ≡ false → result ≡ false }
 {
-    let mut text = [0u8; 20];
-    let k = io::decimal(n, &mut text);
-    put(ok, &text[..k])
+    let mut room = [0u8; 20];
+    let k = digits_to(&mut room, format_args!("{n}"));
+    put(rt, ok, &room[..k])
 }
 
-pub fn put_hex(ok: bool, n: u64, width: usize) -> bool
+// A width of 0 counts as 1, and one above 16 as 16.
+pub fn put_hex(rt: &(impl Print + Files + Eprint), ok: bool, n: u64, width: usize) -> bool
     ensures { ok ≡ false → result ≡ false }
 {
-    let mut text = [0u8; 16];
-    let k = io::hex(n, width, &mut text);
-    put(ok, &text[..k])
+    let mut room = [0u8; 16];
+    let width = width.min(room.len());
+    let k = digits_to(&mut room, format_args!("{n:0width$x}"));
+    put(rt, ok, &room[..k])
+}
+
+// The digits to the front of room, and how many they are.
+fn digits_to(room: &mut [u8], digits: impl Display + Drop) -> usize
+    ensures { result ≤ length room.new }
+{
+    let most = room.len();
+    let mut text = Cursor::new(room);
+    let _ = write!(text, "{digits}");
+    most.min(text.position() as usize)
+}
+
+// The words that a program was started with, its name among them.
+pub fn words(rt: &impl Env) -> usize {
+    let mut none = [0u8; 0];
+    for i in 0..usize::MAX {
+        match rt.arg(i, &mut none) {
+            Err(FillError::NotPresent) => return i,
+            _ => {}
+        }
+    }
+    usize::MAX
 }
 
 // Whether a program whose words are so many, its name among them, was started with arguments. It takes none, so then it says on standard error
 // how it is used, and does nothing else.
-pub fn usage(words: usize, text: &[u8]) -> bool
+pub fn usage(rt: &impl Eprint, words: usize, text: &[u8]) -> bool
     ensures { result ≡ ltb 1 words }
 {
     if words <= 1 {
         return false;
     }
-    io::write_all(2, text);
+    message::tell(rt, text);
     true
 }
