@@ -14,9 +14,8 @@ ghost use Rattle.std.specs.Prelude.{◌*◌, ◌≤◌, length};
 
 use buffer::Answer;
 use calendar::{Civil, Dated};
-use std::rt::Files;
-use streams::tally;
 use streams::tally::{Tally, compared, passed_over};
+use streams::{CanRead, CanWrite, tally};
 
 // A line that is no call is answered with the number 0, which no refusal has.
 const NO_CALL: u8 = 0;
@@ -198,7 +197,7 @@ fn space(line: &[u8]) -> usize
 }
 
 // A line: two characters stand before the call's bytes, and a space behind them.
-fn counted(rt: &(impl Print + Files + Eprint), t: Tally, line: &[u8], room: &mut [u8]) -> Tally {
+fn counted(rt: &impl CanWrite, t: Tally, line: &[u8], room: &mut [u8]) -> Tally {
     let n = line.len();
     if n < 1 {
         return compared(rt, t, false);
@@ -216,7 +215,12 @@ fn counted(rt: &(impl Print + Files + Eprint), t: Tally, line: &[u8], room: &mut
 }
 
 // A proved loop has to end, and nothing says that the input does. So the turns are counted down from a number that no run uses up.
-fn all(rt: &(impl Input + Print + Files + Eprint), block: &mut [u8], line: &mut [u8], room: &mut [u8]) -> Tally {
+fn all(
+    rt: &(impl CanRead + CanWrite),
+    block: &mut [u8],
+    line: &mut [u8],
+    room: &mut [u8],
+) -> Tally {
     let mut r = lines::input::start();
     let mut t = tally::start();
     let mut turns = u64::MAX;

@@ -7,9 +7,8 @@ ghost use Rattle.std.specs.Prelude.{◌≡◌};
 ghost use Rattle.judge.specs.Mark.{schema_mark, value_mark, mark_of};
 
 use frame::Verdict;
-use std::rt::Files;
-use streams::tally;
 use streams::tally::{Tally, compared, passed_over};
+use streams::{CanRead, CanWrite, tally};
 
 fn schema_mark(v: Verdict) -> u8
     ensures { result ≡ schema_mark v }
@@ -45,7 +44,7 @@ fn frame_mark(letter: u8, frame: &[u8]) -> u8
 }
 
 // A line: two characters stand before the frame and two behind it.
-fn counted(rt: &(impl Print + Files + Eprint), t: Tally, line: &[u8], room: &mut [u8]) -> Tally {
+fn counted(rt: &impl CanWrite, t: Tally, line: &[u8], room: &mut [u8]) -> Tally {
     let n = line.len();
     if n < 4 {
         return compared(rt, t, false);
@@ -61,7 +60,7 @@ fn counted(rt: &(impl Print + Files + Eprint), t: Tally, line: &[u8], room: &mut
 
 // A proved loop has to end, and nothing says that the input does. So the turns are counted down from a number that no run uses up.
 fn all(
-    rt: &(impl Input + Print + Files + Eprint),
+    rt: &(impl CanRead + CanWrite),
     block: &mut [u8],
     line: &mut [u8],
     room: &mut [u8],

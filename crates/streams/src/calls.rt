@@ -4,6 +4,7 @@ ghost use Rattle.std.specs.IoError.{raw_os_error};
 ghost use Rattle.streams.specs.Calls.{unmoved, after, is_again, Within};
 ghost use Rattle.streams.specs.declared.calls.Step.TheVariants.{Failed};
 
+use crate::{CanRead, CanWrite};
 use std::fs::File;
 use std::io;
 use std::io::{ErrorKind, Read, Write};
@@ -170,7 +171,7 @@ fn write_anew<R: Files>(rt: &R, bytes: &[u8]) -> Call
 }
 
 // A read of standard input, which waits for the first byte.
-pub(crate) fn read<R: Input + Files>(rt: &R, block: &mut [u8]) -> Call
+pub(crate) fn read<R: CanRead>(rt: &R, block: &mut [u8]) -> Call
     ensures { Within (length block.new) result.step }
 {
     let mut input = rt.reader();
@@ -182,7 +183,7 @@ pub(crate) fn read<R: Input + Files>(rt: &R, block: &mut [u8]) -> Call
 }
 
 // A write to standard output, which waits until it can take a byte.
-pub(crate) fn write<R: Print + Files>(rt: &R, bytes: &[u8]) -> Call
+pub(crate) fn write<R: CanWrite>(rt: &R, bytes: &[u8]) -> Call
     ensures { Within (length bytes.now) result.step }
 {
     let mut output = io::writer(rt);

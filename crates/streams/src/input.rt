@@ -6,9 +6,8 @@ ghost use Rattle.lines.specs.Held.{Held, uncut};
 ghost use Rattle.streams.specs.Supplied.{Refilled, spent, supplied};
 
 use crate::calls::{Call, Step};
-use crate::{calls, message};
+use crate::{CanRead, calls, message};
 use lines::input::{Reader, begin, cut, last};
-use std::rt::Files;
 
 // A reader with nothing to come and nothing held.
 fn spent() -> Reader
@@ -61,7 +60,7 @@ fn told(rt: &impl Eprint, call: Call) {
 }
 
 // A new block where the last one is used up, unless the input is over.
-fn refilled(rt: &(impl Input + Files + Eprint), r: Reader, block: &mut [u8]) -> Reader
+fn refilled(rt: &impl CanRead, r: Reader, block: &mut [u8]) -> Reader
     requires { (r.at ≤ r.end) × (r.end ≤ length block.old) }
     ensures at_le_end { (result.at ≤ result.end) × (result.end ≤ length block.new) × (result.filled ≤ r.filled) }
     ensures block_after { r.at < r.end → uncut result block.new ≡ uncut r block.old }
@@ -81,12 +80,7 @@ fn refilled(rt: &(impl Input + Files + Eprint), r: Reader, block: &mut [u8]) -> 
 // The rest of a line whose newline is not in the block: it is read on until there is one or the input is over. `whole` says whether there is a
 // line; there is none of a line that was half read when a read failed.
 // A proved loop has to end, and nothing says that a line does. So the turns are counted down from a number that no line uses up.
-pub fn finish(
-    rt: &(impl Input + Files + Eprint),
-    r: Reader,
-    block: &mut [u8],
-    line: &mut [u8],
-) -> Reader
+pub fn finish(rt: &impl CanRead, r: Reader, block: &mut [u8], line: &mut [u8]) -> Reader
     requires { Held r block.old line.old }
     ensures { Held result block.new line.new }
 {
@@ -107,12 +101,7 @@ pub fn finish(
 }
 
 // The next line, if `whole`.
-pub fn next(
-    rt: &(impl Input + Files + Eprint),
-    r: Reader,
-    block: &mut [u8],
-    line: &mut [u8],
-) -> Reader
+pub fn next(rt: &impl CanRead, r: Reader, block: &mut [u8], line: &mut [u8]) -> Reader
     requires { Held r block.old line.old }
     ensures { Held result block.new line.new }
 {

@@ -1,16 +1,16 @@
-// Output of the programs. The first write that fails ends it: a message goes to standard error, and nothing more to standard output.
+// CanWrite of the programs. The first write that fails ends it: a message goes to standard error, and nothing more to standard output.
 // Each function takes and answers whether every write so far went through, so that no program goes on by mistake.
 ghost use Rattle.std.specs.Prelude.{◌≡◌, ◌≤◌, false, length, ltb};
 
 use crate::calls::Step;
-use crate::{calls, message};
+use crate::{CanWrite, calls, message};
 use std::env::FillError;
 use std::fmt::Display;
 use std::io::{Cursor, Write};
-use std::rt::{Env, Files};
+use std::rt::Env;
 
 // Writes all of the bytes; whether it could.
-fn written(rt: &(impl Print + Files + Eprint), bytes: &[u8]) -> bool {
+fn written(rt: &impl CanWrite, bytes: &[u8]) -> bool {
     let mut at: usize = 0;
     while at < bytes.len() {
         let call = calls::write(rt, &bytes[at..]);
@@ -27,7 +27,7 @@ fn written(rt: &(impl Print + Files + Eprint), bytes: &[u8]) -> bool {
     true
 }
 
-pub fn put(rt: &(impl Print + Files + Eprint), ok: bool, bytes: &[u8]) -> bool
+pub fn put(rt: &impl CanWrite, ok: bool, bytes: &[u8]) -> bool
     ensures { ok ≡ false → result ≡ false }
 {
     if ok {
@@ -36,7 +36,7 @@ pub fn put(rt: &(impl Print + Files + Eprint), ok: bool, bytes: &[u8]) -> bool
     false
 }
 
-pub fn put_decimal(rt: &(impl Print + Files + Eprint), ok: bool, n: u64) -> bool
+pub fn put_decimal(rt: &impl CanWrite, ok: bool, n: u64) -> bool
     ensures { ok ≡ false → result ≡ false }
 {
     let mut room = [0u8; 20];
@@ -45,7 +45,7 @@ pub fn put_decimal(rt: &(impl Print + Files + Eprint), ok: bool, n: u64) -> bool
 }
 
 // A width of 0 counts as 1, and one above 16 as 16.
-pub fn put_hex(rt: &(impl Print + Files + Eprint), ok: bool, n: u64, width: usize) -> bool
+pub fn put_hex(rt: &impl CanWrite, ok: bool, n: u64, width: usize) -> bool
     ensures { ok ≡ false → result ≡ false }
 {
     let mut room = [0u8; 16];

@@ -2,8 +2,8 @@
 ghost use Rattle.std.specs.Prelude.{◌≡◌, false};
 ghost use Rattle.streams.specs.Tally.{started, one_more, passed_over, Compared};
 
+use crate::CanWrite;
 use crate::output::{put, put_decimal};
-use std::rt::Files;
 
 // The lines read, the answers compared, those that differ, and whether every write so far went through.
 #[derive(Clone, Copy)]
@@ -33,7 +33,7 @@ fn more(n: u64) -> u64
 }
 
 // Names a line that has another answer.
-fn name(rt: &(impl Print + Files + Eprint), ok: bool, line: u64) -> bool
+fn name(rt: &impl CanWrite, ok: bool, line: u64) -> bool
     ensures { ok ≡ false → result ≡ false }
 {
     let ok = put(rt, ok, b"line ");
@@ -54,7 +54,7 @@ pub fn passed_over(t: Tally) -> Tally
 }
 
 // A line whose answer is the expected one, or another.
-pub fn compared(rt: &(impl Print + Files + Eprint), t: Tally, same: bool) -> Tally
+pub fn compared(rt: &impl CanWrite, t: Tally, same: bool) -> Tally
     ensures { Compared t same result }
 {
     let line = more(t.line);
@@ -75,7 +75,7 @@ pub fn compared(rt: &(impl Print + Files + Eprint), t: Tally, same: bool) -> Tal
 }
 
 // How many of what were compared, and how many differ; whether every write went through.
-pub fn report(rt: &(impl Print + Files + Eprint), t: Tally, what: &[u8]) -> bool
+pub fn report(rt: &impl CanWrite, t: Tally, what: &[u8]) -> bool
     ensures { t.ok ≡ false → result ≡ false }
 {
     let ok = put_decimal(rt, t.ok, t.compared);
