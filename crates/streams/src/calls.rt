@@ -59,6 +59,7 @@ fn after(got: isize, error: i32) -> Step
     Step::Took(got as usize)
 }
 
+#[tactic(auto, unfolding(crate::specs::Calls::is_again))]
 fn is_again(s: Step) -> bool
     ensures { result ≡ is_again s }
 {
@@ -119,6 +120,7 @@ fn failed(error: io::Error) -> Call
 
 // A read that a signal broke off is tried again.
 // A proved loop has to end, so the turns are counted down from a number that no run uses up.
+#[tactic(auto, unfolding(crate::specs::Calls::Within))]
 fn read_on<R: Read>(from: &mut R, block: &mut [u8]) -> Call
     ensures { Within (length block.new) result.step }
 {
@@ -135,6 +137,7 @@ fn read_on<R: Read>(from: &mut R, block: &mut [u8]) -> Call
 }
 
 // The same of a write.
+#[tactic(auto, unfolding(crate::specs::Calls::Within))]
 fn write_on<W: Write>(to: &mut W, bytes: &[u8]) -> Call
     ensures { Within (length bytes.now) result.step }
 {
@@ -151,6 +154,7 @@ fn write_on<W: Write>(to: &mut W, bytes: &[u8]) -> Call
 }
 
 // Standard input, opened anew by its name: what is opened so waits.
+#[tactic(auto, unfolding(crate::specs::Calls::Within))]
 fn read_anew<R: Files>(rt: &R, block: &mut [u8]) -> Call
     ensures { Within (length block.new) result.step }
 {
@@ -161,6 +165,7 @@ fn read_anew<R: Files>(rt: &R, block: &mut [u8]) -> Call
 }
 
 // The same of standard output.
+#[tactic(auto, unfolding(crate::specs::Calls::Within))]
 fn write_anew<R: Files>(rt: &R, bytes: &[u8]) -> Call
     ensures { Within (length bytes.now) result.step }
 {

@@ -24,6 +24,7 @@ fn spent() -> Reader
 }
 
 // The reader after a read into its block. Of a line that was half read when a read failed nothing is held.
+#[tactic(auto, unfolding(crate::specs::Supplied::supplied))]
 fn supplied(r: Reader, s: Step) -> Reader
     ensures { result ≡ supplied r s }
 {

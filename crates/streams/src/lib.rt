@@ -5,6 +5,7 @@ pub mod calls;
 pub mod input;
 mod message;
 pub mod output;
+mod room;
 pub mod tally;
 
 use std::rt::Files;

@@ -1,5 +1,6 @@
 // What goes to standard error. A message that can't be written is lost.
-use std::io::{Cursor, ErrorKind, Write};
+use crate::room::text_to;
+use std::io::ErrorKind;
 use std::{fmt, io};
 
 // The words of an error that has a number of the system's, as C's strerror has them: std writes that number behind them.
@@ -12,10 +13,7 @@ struct Reason(io::Error);
 impl fmt::Display for Reason {
     fn fmt<W: fmt::Write>(&self, f: &mut fmt::Formatter<W>) -> fmt::Result {
         let mut room = [0u8; 300];
-        let mut text = Cursor::new(&mut room[..]);
-        let error = self.0;
-        let _ = write!(text, "{error}");
-        let n = text.position() as usize;
+        let n = text_to(&mut room, self.0);
         match str::from_utf8(&room[..n]) {
             Ok(words) => f.write_str(without_number(words)),
             Err(_) => Ok(()),

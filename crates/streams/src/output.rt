@@ -1,12 +1,11 @@
-// CanWrite of the programs. The first write that fails ends it: a message goes to standard error, and nothing more to standard output.
+// Output of the programs. The first write that fails ends it: a message goes to standard error, and nothing more to standard output.
 // Each function takes and answers whether every write so far went through, so that no program goes on by mistake.
-ghost use Rattle.std.specs.Prelude.{◌≡◌, ◌≤◌, false, length, ltb};
+ghost use Rattle.std.specs.Prelude.{◌≡◌, false, ltb};
 
 use crate::calls::Step;
+use crate::room::text_to;
 use crate::{CanWrite, calls, message};
 use std::env::FillError;
-use std::fmt::Display;
-use std::io::{Cursor, Write};
 use std::rt::Env;
 
 // Writes all of the bytes; whether it could.
@@ -40,7 +39,7 @@ pub fn put_decimal(rt: &impl CanWrite, ok: bool, n: u64) -> bool
     ensures { ok ≡ false → result ≡ false }
 {
     let mut room = [0u8; 20];
-    let k = digits_to(&mut room, format_args!("{n}"));
+    let k = text_to(&mut room, format_args!("{n}"));
     put(rt, ok, &room[..k])
 }
 
@@ -50,18 +49,8 @@ pub fn put_hex(rt: &impl CanWrite, ok: bool, n: u64, width: usize) -> bool
 {
     let mut room = [0u8; 16];
     let width = width.min(room.len());
-    let k = digits_to(&mut room, format_args!("{n:0width$x}"));
+    let k = text_to(&mut room, format_args!("{n:0width$x}"));
     put(rt, ok, &room[..k])
-}
-
-// The digits to the front of room, and how many they are.
-fn digits_to(room: &mut [u8], digits: impl Display + Drop) -> usize
-    ensures { result ≤ length room.new }
-{
-    let most = room.len();
-    let mut text = Cursor::new(room);
-    let _ = write!(text, "{digits}");
-    most.min(text.position() as usize)
 }
 
 // The words that a program was started with, its name among them.
