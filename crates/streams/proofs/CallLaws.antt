@@ -11,7 +11,7 @@ use mir.Syntax.{w32, w64}
 use mir.Val.{to_z, of_z, SFits}
 use mir.ValLaws.{to_z-of_z}
 use Rattle.std.proofs.Math.Facts.{to_z_pos}
-use Rattle.std.specs.Prelude.{Result, Ok, IfOk}
+use Rattle.std.specs.Prelude.{Result, Ok, Option, None, Some, IfOk, IfSome}
 use Rattle.base.specs.Base.{if◌then◌else◌}
 use Rattle.streams.specs.Calls.{interrupted, would_wait, is, unmoved, after, Within}
 use Rattle.streams.specs.declared.calls.Step.{Step}
@@ -83,3 +83,13 @@ within-took room n s e w = rw e at w
 
 pub ok-most : {E : Type 0} (r : Result ℕ E) (room n : ℕ) → r ≡ Ok n → IfOk r (λ k. k ≤ room) → n ≤ room
 ok-most r room n e h = rw e at h
+
+-- ---- an error's number
+
+pub unmoved-after : (k : ℕ) (e : ℤ) → after (negsuc k) e ≡ unmoved e
+unfolding after
+unmoved-after k e = refl
+
+pub some-unmoved : (o : Option ℤ) (z : ℤ) (s : Step) → s ≡ unmoved z → IfSome o (λ code. z ≡ code) → IfSome o (λ code. s ≡ unmoved code)
+some-unmoved None z s e h = tt
+some-unmoved (Some code) z s e h = e ∙ ap unmoved h

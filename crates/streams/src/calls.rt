@@ -1,5 +1,5 @@
 // Calls of the system's read and write, by way of std. What is to be done after each is proved; no contract of the language says what they read or write.
-ghost use Rattle.std.specs.Prelude.{◌≡◌, ◌≤◌, length, IfOk, IfSome};
+ghost use Rattle.std.specs.Prelude.{◌≡◌, ◌≤◌, length, false, pos, Some, IfOk, IfErr, IfSome};
 ghost use Rattle.std.specs.IoError.{raw_os_error};
 ghost use Rattle.streams.specs.Calls.{unmoved, after, is_again, Within};
 ghost use Rattle.streams.specs.declared.calls.Step.TheVariants.{Failed};
@@ -94,7 +94,10 @@ fn number_of(error: &io::Error) -> i32
 // A call that was handed bytes, or room for them, by what std answers of it.
 fn called(moved: io::Result<usize>, handed: &[u8]) -> Call
     requires { IfOk moved (λ n. n ≤ length handed.now) }
-    ensures { Within (length handed.now) result.step }
+    ensures within { Within (length handed.now) result.step }
+    ensures ok { IfOk moved (λ n. result.step ≡ after (pos n) (pos 0)) }
+    ensures err { IfErr moved (λ e. IfSome (raw_os_error e) (λ code. result.step ≡ unmoved code)) }
+    ensures error { IfErr moved (λ e. result.error ≡ Some e) }
 {
     match moved {
         Ok(n) => Call {
@@ -120,9 +123,10 @@ fn failed(error: io::Error) -> Call
 
 // A read that a signal broke off is tried again.
 // A proved loop has to end, so the turns are counted down from a number that no run uses up.
-#[tactic(auto, unfolding(crate::specs::Calls::Within))]
+#[tactic(auto, unfolding(crate::specs::Calls::Within, crate::specs::Calls::is_again))]
 fn read_on<R: Read>(from: &mut R, block: &mut [u8]) -> Call
-    ensures { Within (length block.new) result.step }
+    ensures within { Within (length block.new) result.step }
+    ensures ended { is_again result.step ≡ false }
 {
     let mut turns = u64::MAX;
     while turns > 0 {
@@ -137,9 +141,10 @@ fn read_on<R: Read>(from: &mut R, block: &mut [u8]) -> Call
 }
 
 // The same of a write.
-#[tactic(auto, unfolding(crate::specs::Calls::Within))]
+#[tactic(auto, unfolding(crate::specs::Calls::Within, crate::specs::Calls::is_again))]
 fn write_on<W: Write>(to: &mut W, bytes: &[u8]) -> Call
-    ensures { Within (length bytes.now) result.step }
+    ensures within { Within (length bytes.now) result.step }
+    ensures ended { is_again result.step ≡ false }
 {
     let mut turns = u64::MAX;
     while turns > 0 {
@@ -154,9 +159,10 @@ fn write_on<W: Write>(to: &mut W, bytes: &[u8]) -> Call
 }
 
 // Standard input, opened anew by its name: what is opened so waits.
-#[tactic(auto, unfolding(crate::specs::Calls::Within))]
+#[tactic(auto, unfolding(crate::specs::Calls::Within, crate::specs::Calls::is_again))]
 fn read_anew<R: Files>(rt: &R, block: &mut [u8]) -> Call
-    ensures { Within (length block.new) result.step }
+    ensures within { Within (length block.new) result.step }
+    ensures ended { is_again result.step ≡ false }
 {
     match File::open(rt, "/proc/self/fd/0") {
         Ok(mut file) => read_on(&mut file, block),
@@ -165,9 +171,10 @@ fn read_anew<R: Files>(rt: &R, block: &mut [u8]) -> Call
 }
 
 // The same of standard output.
-#[tactic(auto, unfolding(crate::specs::Calls::Within))]
+#[tactic(auto, unfolding(crate::specs::Calls::Within, crate::specs::Calls::is_again))]
 fn write_anew<R: Files>(rt: &R, bytes: &[u8]) -> Call
-    ensures { Within (length bytes.now) result.step }
+    ensures within { Within (length bytes.now) result.step }
+    ensures ended { is_again result.step ≡ false }
 {
     match File::options().append(true).open(rt, "/proc/self/fd/1") {
         Ok(mut file) => write_on(&mut file, bytes),
@@ -177,7 +184,8 @@ fn write_anew<R: Files>(rt: &R, bytes: &[u8]) -> Call
 
 // A read of standard input, which waits for the first byte.
 pub(crate) fn read<R: CanRead>(rt: &R, block: &mut [u8]) -> Call
-    ensures { Within (length block.new) result.step }
+    ensures within { Within (length block.new) result.step }
+    ensures ended { is_again result.step ≡ false }
 {
     let mut input = rt.reader();
     let call = read_on(&mut input, block);
@@ -189,7 +197,8 @@ pub(crate) fn read<R: CanRead>(rt: &R, block: &mut [u8]) -> Call
 
 // A write to standard output, which waits until it can take a byte.
 pub(crate) fn write<R: CanWrite>(rt: &R, bytes: &[u8]) -> Call
-    ensures { Within (length bytes.now) result.step }
+    ensures within { Within (length bytes.now) result.step }
+    ensures ended { is_again result.step ≡ false }
 {
     let mut output = io::writer(rt);
     let call = write_on(&mut output, bytes);

@@ -18,7 +18,7 @@ returns-clause-at_le_end g c =
     subst
     (λ (t : Reader). (t.at ≤ t.end) × (t.end ≤ length c.read-call.new.block) × (t.filled ≤ c.args.r.filled))
     (sym c.supplied.ensures)
-    (supplied-in c.args.r _ _ c.read-call.ensures)
+    (supplied-in c.args.r _ _ c.read-call.ensures.within)
 
 pub returns-clause-refilled : goal.returns-clause-refilled
 returns-clause-refilled g c = subst (Refilled c.args.r) (sym c.supplied.ensures) (read _)

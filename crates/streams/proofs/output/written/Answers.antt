@@ -14,15 +14,15 @@ left s at = length-take-le (length s - at) (drop at s) (omega (arith, length-dro
 
 pub overflow_add-at : goal.overflow_add-at
 overflow_add-at g c =
-    let w = within-took _ _ _ c.in-Took.is c.write-call.ensures in
+    let w = within-took _ _ _ c.in-Took.is c.write-call.ensures.within in
     omega (arith, w.0, w.1, left c.args.bytes.now c.loop-at.at, c.loop-at.invariant)
 
 pub loop-at-smaller : goal.loop-at-smaller
 loop-at-smaller g c =
-    let w = within-took _ _ _ c.in-Took.is c.write-call.ensures in
+    let w = within-took _ _ _ c.in-Took.is c.write-call.ensures.within in
     omega (arith, w.0, w.1, left c.args.bytes.now c.loop-at.at, c.loop-at.invariant)
 
 pub loop-at-preserved : goal.loop-at-preserved
 loop-at-preserved g c =
-    let w = within-took _ _ _ c.in-Took.is c.write-call.ensures in
+    let w = within-took _ _ _ c.in-Took.is c.write-call.ensures.within in
     omega (arith, w.0, w.1, left c.args.bytes.now c.loop-at.at, c.loop-at.invariant)
