@@ -75,9 +75,9 @@ fn compare(rt: &impl CanWrite, r: Replay, line: &[u8], got: &[u8], counts: &mut 
     ensures { Replayed result }
 {
     let n = number(line);
-    counts[n] = std::num::wrapping_add_u64(counts[n], 1);
-    let compared = std::num::wrapping_add_u64(r.compared, 1);
-    if check::same(line, got) {
+    counts[n] = counts[n].wrapping_add(1);
+    let compared = r.compared.wrapping_add(1);
+    if text::same(line, got) {
         return Replay {
             schema: r.schema,
             got: r.got,
@@ -92,7 +92,7 @@ fn compare(rt: &impl CanWrite, r: Replay, line: &[u8], got: &[u8], counts: &mut 
         got: r.got,
         lines: r.lines,
         compared,
-        differ: std::num::wrapping_add_u64(r.differ, 1),
+        differ: r.differ.wrapping_add(1),
         ok: report(rt, r.ok, r.lines, line, got),
     }
 }
@@ -163,7 +163,7 @@ fn next(r: Replay) -> Replay
     Replay {
         schema: r.schema,
         got: r.got,
-        lines: std::num::wrapping_add_u64(r.lines, 1),
+        lines: r.lines.wrapping_add(1),
         compared: r.compared,
         differ: r.differ,
         ok: r.ok,
