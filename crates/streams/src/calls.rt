@@ -28,7 +28,7 @@ pub enum Step {
 
 // What a call did, and the error that it answered, if it did.
 #[derive(Clone, Copy)]
-pub struct Call {
+pub(crate) struct Call {
     pub step: Step,
     pub error: Option<io::Error>,
 }
