@@ -11,8 +11,7 @@ use mir.Syntax.{w32, w64}
 use mir.Val.{to_z, of_z, SFits}
 use mir.ValLaws.{to_z-of_z}
 use Rattle.std.proofs.Math.Facts.{to_z_pos}
-use Rattle.std.specs.Prelude.{Result, Ok, Option, None, Some, IfOk, IfSome}
-use Rattle.base.specs.Base.{if◌then◌else◌}
+use Rattle.std.specs.Prelude.{Result, Ok, Option, None, Some, IfOk, IfSome, if◌then◌else◌}
 use Rattle.streams.specs.Calls.{interrupted, would_wait, is, unmoved, after, Within}
 use Rattle.streams.specs.declared.calls.Step.{Step}
 use Rattle.streams.specs.declared.calls.Step.TheVariants.{Took, Again, Wait, Failed}
