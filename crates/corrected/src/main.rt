@@ -9,8 +9,8 @@
 ghost use Rattle.std.specs.Prelude.{◌*◌, ◌≤◌, length};
 
 use hulmbax::Resolved;
-use streams::tally;
 use streams::tally::{Tally, compared, passed_over};
+use streams::{CanRead, CanWrite, tally};
 
 // A line that is no call is answered with the number 0, which no refusal has.
 const NO_CALL: u8 = 0;
@@ -128,43 +128,56 @@ fn space(line: &[u8]) -> usize {
 }
 
 // A line: a space stands behind the call's bytes.
-fn counted(t: Tally, line: &[u8], room: &mut [u8], workspace: &mut [u8]) -> Tally {
+fn counted(
+    rt: &impl CanWrite,
+    t: Tally,
+    line: &[u8],
+    room: &mut [u8],
+    workspace: &mut [u8],
+) -> Tally {
     let n = line.len();
     if n < 1 {
-        return compared(t, false);
+        return compared(rt, t, false);
     }
     if line[0] == b'#' {
         return passed_over(t);
     }
     let e = space(line);
     if n <= e {
-        return compared(t, false);
+        return compared(rt, t, false);
     }
     let k = lines::frame(&line[0..e], room);
     let after = e + 1;
-    compared(t, is_expected(&room[0..k], &line[after..], workspace))
+    compared(rt, t, is_expected(&room[0..k], &line[after..], workspace))
 }
 
 // A proved loop has to end, and nothing says that the input does. So the turns are counted down from a number that no run uses up.
-fn all(block: &mut [u8], line: &mut [u8], room: &mut [u8], workspace: &mut [u8]) -> Tally {
+fn all(
+    rt: &(impl CanRead + CanWrite),
+    block: &mut [u8],
+    line: &mut [u8],
+    room: &mut [u8],
+    workspace: &mut [u8],
+) -> Tally {
     let mut r = lines::input::start();
     let mut t = tally::start();
     let mut turns = u64::MAX;
     while turns > 0 {
-        r = streams::input::next(r, block, line);
+        r = streams::input::next(rt, r, block, line);
         if !r.whole || !t.ok {
             return t;
         }
         let n = r.filled;
-        t = counted(t, &line[0..n], room, workspace);
+        t = counted(rt, t, &line[0..n], room, workspace);
         turns -= 1;
     }
     t
 }
 
-fn main() {
+fn main(rt: HostRuntime) {
     if streams::output::usage(
-        os::arg_count(),
+        &rt,
+        streams::output::words(&rt),
         b"usage: corrected < LIST\nReads lists of frames and their current finishes from standard input. It takes no arguments.\n",
     ) {
         return;
@@ -173,8 +186,6 @@ fn main() {
     let mut line = [0u8; 4096];
     let mut room = [0u8; 2048];
     let mut workspace = [0u8; 65536];
-    tally::report(
-        all(&mut block, &mut line, &mut room, &mut workspace),
-        b" answers",
-    );
+    let t = all(&rt, &mut block, &mut line, &mut room, &mut workspace);
+    tally::report(&rt, t, b" answers");
 }

@@ -1,6 +1,5 @@
 -- The marks of the list: `+` for a sound frame, else the number that stops it.
-use Rattle.std.specs.Prelude.{ℕ, List, eqb}
-use Rattle.base.specs.Base.{if◌then◌else◌}
+use Rattle.std.specs.Prelude.{ℕ, List, eqb, if◌then◌else◌}
 use Rattle.frame.specs.Checks.{schema_verdict, value_verdict}
 use Rattle.frame.specs.declared.Verdict.{Verdict}
 use Rattle.frame.specs.declared.Verdict.TheVariants.{NoFrame, Unsound, Sound}

@@ -7,8 +7,8 @@ ghost use Rattle.std.specs.Prelude.{◌≡◌};
 ghost use Rattle.judge.specs.Mark.{schema_mark, value_mark, mark_of};
 
 use frame::Verdict;
-use streams::tally;
 use streams::tally::{Tally, compared, passed_over};
+use streams::{CanRead, CanWrite, tally};
 
 fn schema_mark(v: Verdict) -> u8
     ensures { result ≡ schema_mark v }
@@ -44,10 +44,10 @@ fn frame_mark(letter: u8, frame: &[u8]) -> u8
 }
 
 // A line: two characters stand before the frame and two behind it.
-fn counted(t: Tally, line: &[u8], room: &mut [u8]) -> Tally {
+fn counted(rt: &impl CanWrite, t: Tally, line: &[u8], room: &mut [u8]) -> Tally {
     let n = line.len();
     if n < 4 {
-        return compared(t, false);
+        return compared(rt, t, false);
     }
     if line[0] == b'#' {
         return passed_over(t);
@@ -55,29 +55,35 @@ fn counted(t: Tally, line: &[u8], room: &mut [u8]) -> Tally {
     let end = n - 2;
     let k = lines::frame(&line[2..end], room);
     let found = frame_mark(line[0], &room[..k]);
-    compared(t, found == line[n - 1])
+    compared(rt, t, found == line[n - 1])
 }
 
 // A proved loop has to end, and nothing says that the input does. So the turns are counted down from a number that no run uses up.
-fn all(block: &mut [u8], line: &mut [u8], room: &mut [u8]) -> Tally {
+fn all(
+    rt: &(impl CanRead + CanWrite),
+    block: &mut [u8],
+    line: &mut [u8],
+    room: &mut [u8],
+) -> Tally {
     let mut r = lines::input::start();
     let mut t = tally::start();
     let mut turns = u64::MAX;
     while turns > 0 {
-        r = streams::input::next(r, block, line);
+        r = streams::input::next(rt, r, block, line);
         if !r.whole || !t.ok {
             return t;
         }
         let n = r.filled;
-        t = counted(t, &line[0..n], room);
+        t = counted(rt, t, &line[0..n], room);
         turns -= 1;
     }
     t
 }
 
-fn main() {
+fn main(rt: HostRuntime) {
     if streams::output::usage(
-        os::arg_count(),
+        &rt,
+        streams::output::words(&rt),
         b"usage: judge < LIST\nReads a list of frames and their marks from standard input. It takes no arguments.\n",
     ) {
         return;
@@ -85,5 +91,6 @@ fn main() {
     let mut block = [0u8; 65536];
     let mut line = [0u8; 131200];
     let mut room = [0u8; 65600];
-    tally::report(all(&mut block, &mut line, &mut room), b" frames");
+    let t = all(&rt, &mut block, &mut line, &mut room);
+    tally::report(&rt, t, b" frames");
 }

@@ -2,6 +2,7 @@
 ghost use Rattle.std.specs.Prelude.{◌≤◌, length};
 
 use crate::{number_line, text_line};
+use streams::CanWrite;
 use streams::output::put;
 
 // The place of the first space, or the line's end.
@@ -26,34 +27,34 @@ fn is_note(s: &[u8]) -> bool {
 }
 
 // A name that stands for no leaf shows as such.
-fn leaf(ok: bool, name: &[u8], given: &[u8]) -> bool {
-    let t = text_line::answer(ok, name, given);
+fn leaf(rt: &impl CanWrite, ok: bool, name: &[u8], given: &[u8]) -> bool {
+    let t = text_line::answer(rt, ok, name, given);
     if t.known {
         return t.ok;
     }
-    let n = number_line::answer(ok, name, given);
+    let n = number_line::answer(rt, ok, name, given);
     if n.known {
         return n.ok;
     }
-    put(ok, b"no such line")
+    put(rt, ok, b"no such line")
 }
 
 // What stands behind the line: the leaf's answer to it.
-fn behind(ok: bool, s: &[u8]) -> bool {
+fn behind(rt: &impl CanWrite, ok: bool, s: &[u8]) -> bool {
     let at = space(s);
     if at == s.len() {
-        return leaf(ok, s, b"");
+        return leaf(rt, ok, s, b"");
     }
     let from = at + 1;
-    leaf(ok, &s[0..at], &s[from..])
+    leaf(rt, ok, &s[0..at], &s[from..])
 }
 
-pub(crate) fn answer(ok: bool, s: &[u8]) -> bool {
-    let ok = put(ok, s);
+pub(crate) fn answer(rt: &impl CanWrite, ok: bool, s: &[u8]) -> bool {
+    let ok = put(rt, ok, s);
     if is_note(s) {
-        return put(ok, b"\n");
+        return put(rt, ok, b"\n");
     }
-    let ok = put(ok, b": ");
-    let ok = behind(ok, s);
-    put(ok, b"\n")
+    let ok = put(rt, ok, b": ");
+    let ok = behind(rt, ok, s);
+    put(rt, ok, b"\n")
 }

@@ -10,30 +10,33 @@ mod number_line;
 mod text_line;
 mod told;
 
+use streams::{CanRead, CanWrite};
+
 // A proved loop has to end, and nothing says that the input does. So the turns are counted down from a number that no run uses up.
-fn all(block: &mut [u8], text: &mut [u8]) {
+fn all(rt: &(impl CanRead + CanWrite), block: &mut [u8], text: &mut [u8]) {
     let mut r = lines::input::start();
     let mut ok = true;
     let mut turns = u64::MAX;
     while turns > 0 {
-        r = streams::input::next(r, block, text);
+        r = streams::input::next(rt, r, block, text);
         if !r.whole || !ok {
             return;
         }
         let n = r.filled;
-        ok = line::answer(ok, &text[0..n]);
+        ok = line::answer(rt, ok, &text[0..n]);
         turns -= 1;
     }
 }
 
-fn main() {
+fn main(rt: HostRuntime) {
     if streams::output::usage(
-        os::arg_count(),
+        &rt,
+        streams::output::words(&rt),
         b"usage: published < EXAMPLES\nReads worked examples, a line each, from standard input. It takes no arguments.\n",
     ) {
         return;
     }
     let mut block = [0u8; 4096];
     let mut text = [0u8; 4096];
-    all(&mut block, &mut text);
+    all(&rt, &mut block, &mut text);
 }

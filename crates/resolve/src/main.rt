@@ -8,6 +8,8 @@ ghost use Rattle.lines.specs.Held.{Held};
 ghost use Rattle.resolve.specs.Buffers.{Buffers};
 
 use lines::input::Reader;
+use std::rt::Env;
+use streams::{CanRead, CanWrite};
 
 // The bytes that wait to be written, and whether every write so far went through.
 #[derive(Clone, Copy)]
@@ -24,30 +26,31 @@ struct Turn {
 }
 
 // Writes what waits.
-fn flushed(o: Output, out: &[u8]) -> Output
+fn flushed(rt: &impl CanWrite, o: Output, out: &[u8]) -> Output
     requires { o.waits ≤ length out.now }
     ensures { (result.waits ≡ 0) × (o.ok ≡ false → result.ok ≡ false) }
 {
     let n = o.waits;
     Output {
         waits: 0,
-        ok: streams::output::put(o.ok, &out[0..n]),
+        ok: streams::output::put(rt, o.ok, &out[0..n]),
     }
 }
 
 // Writes what waits once the longest line might not fit behind it.
-fn roomy(o: Output, out: &[u8]) -> Output
+fn roomy(rt: &impl CanWrite, o: Output, out: &[u8]) -> Output
     requires { o.waits ≤ length out.now }
     ensures { (result.waits ≤ 131071) × (o.ok ≡ false → result.ok ≡ false) }
 {
     if o.waits <= 131071 {
         return o;
     }
-    flushed(o, out)
+    flushed(rt, o, out)
 }
 
 // The answer to a value's line, behind the bytes that wait.
 fn value_line(
+    rt: &impl CanWrite,
     line: &[u8],
     schema: &[u8],
     value: &mut [u8],
@@ -66,11 +69,18 @@ fn value_line(
         waits: waits + more,
         ok: o.ok,
     };
-    roomy(longer, out)
+    roomy(rt, longer, out)
 }
 
 // The next line. A read may have to wait, so what is ready is written before it.
-fn next(r: Reader, o: Output, block: &mut [u8], line: &mut [u8], out: &[u8]) -> Turn
+fn next(
+    rt: &(impl CanRead + CanWrite),
+    r: Reader,
+    o: Output,
+    block: &mut [u8],
+    line: &mut [u8],
+    out: &[u8],
+) -> Turn
     requires { Held r block.old line.old × (o.waits ≤ 131071) × (131071 ≤ length out.now) }
     ensures { Held result.reader block.new line.new × (result.output.waits ≤ 131071) × (o.ok ≡ false → result.output.ok ≡ false) }
 {
@@ -78,11 +88,11 @@ fn next(r: Reader, o: Output, block: &mut [u8], line: &mut [u8], out: &[u8]) -> 
     if reader.whole {
         return Turn { reader, output: o };
     }
-    let output = flushed(o, out);
+    let output = flushed(rt, o, out);
     if !output.ok {
         return Turn { reader, output };
     }
-    let finished = streams::input::finish(reader, block, line);
+    let finished = streams::input::finish(rt, reader, block, line);
     Turn {
         reader: finished,
         output,
@@ -92,6 +102,7 @@ fn next(r: Reader, o: Output, block: &mut [u8], line: &mut [u8], out: &[u8]) -> 
 // The values, up to the input's end or the first write that fails.
 // A proved loop has to end, and nothing says that the input does. So the turns are counted down from a number that no run uses up.
 fn values(
+    rt: &(impl CanRead + CanWrite),
     start: Reader,
     block: &mut [u8],
     line: &mut [u8],
@@ -108,14 +119,14 @@ fn values(
     let mut o = Output { waits: 0, ok: true };
     let mut turns = u64::MAX;
     while turns > 0 {
-        let t = next(r, o, block, line, out);
+        let t = next(rt, r, o, block, line, out);
         r = t.reader;
         o = t.output;
         if !r.whole || !o.ok {
             return o;
         }
         let n = r.filled;
-        o = value_line(&line[0..n], schema, value, res, workspace, out, o);
+        o = value_line(rt, &line[0..n], schema, value, res, workspace, out, o);
         turns -= 1;
     }
     o
@@ -123,6 +134,7 @@ fn values(
 
 // The schema's line, and then the values. A line too long for its buffer is longer than any frame, and counts as no frame.
 fn run(
+    rt: &(impl CanRead + CanWrite),
     block: &mut [u8],
     line: &mut [u8],
     schema: &mut [u8],
@@ -133,17 +145,28 @@ fn run(
 )
     requires { Buffers value.old res.old workspace.old out.old }
 {
-    let r = streams::input::next(lines::input::start(), block, line);
+    let r = streams::input::next(rt, lines::input::start(), block, line);
     let filled = r.filled;
     let n = lines::frame(&line[0..filled], schema);
-    let o = values(r, block, line, &schema[0..n], value, res, workspace, out);
-    flushed(o, out);
+    let o = values(
+        rt,
+        r,
+        block,
+        line,
+        &schema[0..n],
+        value,
+        res,
+        workspace,
+        out,
+    );
+    flushed(rt, o, out);
 }
 
 // How the program is used.
-fn asked() -> bool {
+fn asked(rt: &(impl Env + Eprint)) -> bool {
     streams::output::usage(
-        os::arg_count(),
+        rt,
+        streams::output::words(rt),
         b"usage: resolve < LINES > ANSWERS\n\
 Brings Avro values to a reader schema. It takes no arguments.\n\
 Each line of standard input is a frame in hexadecimal: first the schema, then values. A line ends in a newline\n\
@@ -154,8 +177,8 @@ nothing more to standard output.\n",
     )
 }
 
-fn main() {
-    if asked() {
+fn main(rt: HostRuntime) {
+    if asked(&rt) {
         return;
     }
     let mut block = [0u8; 65536];
@@ -166,6 +189,7 @@ fn main() {
     let mut workspace = [0u8; 65536];
     let mut out = [0u8; 262144];
     run(
+        &rt,
         &mut block,
         &mut line,
         &mut schema,

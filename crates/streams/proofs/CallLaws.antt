@@ -1,5 +1,5 @@
 -- What a call did, by its answer and the system's number as signed numbers and as their bits. Assumes nothing.
-use Prim.Native.Nat.{ℕ, zero, suc, ◌≤◌, ◌<◌}
+use Prim.Native.Nat.{ℕ, zero, suc, ◌≤◌, ◌<◌, ◌^◌}
 use mathlib.Core.Path.{◌≡◌, refl, sym, ap, subst, ◌∙◌}
 use mathlib.Core.Bool.{Bool, true, false}
 use native.Mathlib.Omega.{arith}
@@ -10,8 +10,8 @@ use lib.Signed.{lt_z, non_neg}
 use mir.Syntax.{w32, w64}
 use mir.Val.{to_z, of_z, SFits}
 use mir.ValLaws.{to_z-of_z}
-use Rattle.base.specs.Base.{if◌then◌else◌}
-use Rattle.libc.specs.Io.{Moved}
+use Rattle.std.proofs.Math.Facts.{to_z_pos}
+use Rattle.std.specs.Prelude.{Result, Ok, Option, None, Some, IfOk, IfSome, if◌then◌else◌}
 use Rattle.streams.specs.Calls.{interrupted, would_wait, is, unmoved, after, Within}
 use Rattle.streams.specs.declared.calls.Step.{Step}
 use Rattle.streams.specs.declared.calls.Step.TheVariants.{Took, Again, Wait, Failed}
@@ -60,14 +60,17 @@ within-if room false true = tt
 within-if room false false = tt
 
 -- no more than were handed over
-within-after : (room : ℕ) (z e : ℤ) → Moved room z → Within room (after z e)
-unfolding after Within unmoved
-within-after room (pos zero) e h = tt
-within-after room (pos (suc k)) e h = (omega arith, h)
-within-after room (negsuc k) e h = within-if room (is interrupted e) (is would_wait e)
+within-after : (room n : ℕ) (e : ℤ) → n ≤ room → Within room (after (pos n) e)
+unfolding Within after
+within-after room zero e h = tt
+within-after room (suc k) e h = (omega arith, h)
 
-pub within-call : (room handed : ℕ) (z y e : ℤ) → room ≡ handed → y ≡ z → Moved handed z → Within room (after y e)
-within-call room handed z y e r i h = subst (λ (n : ℕ). Within n (after y e)) (sym r) (subst (λ (x : ℤ). Within handed (after x e)) (sym i) (within-after handed z e h))
+pub within-moved : (room n : ℕ) (e : ℤ) → n < 2 ^ 63 → n ≤ room → Within room (after (to_z w64 n) e)
+within-moved room n e f h = subst (λ (z : ℤ). Within room (after z e)) (sym (to_z_pos w64 f)) (within-after room n e h)
+
+pub within-unmoved : (room k : ℕ) (e : ℤ) → Within room (after (negsuc k) e)
+unfolding Within after unmoved
+within-unmoved room k e = within-if room (is interrupted e) (is would_wait e)
 
 pub within-failed : (room : ℕ) → Within room Failed
 unfolding Within
@@ -76,3 +79,16 @@ within-failed room = tt
 pub within-took : (room n : ℕ) (s : Step) → s ≡ Took n → Within room s → (0 < n) × (n ≤ room)
 unfolding Within
 within-took room n s e w = rw e at w
+
+pub ok-most : {E : Type 0} (r : Result ℕ E) (room n : ℕ) → r ≡ Ok n → IfOk r (λ k. k ≤ room) → n ≤ room
+ok-most r room n e h = rw e at h
+
+-- ---- an error's number
+
+pub unmoved-after : (k : ℕ) (e : ℤ) → after (negsuc k) e ≡ unmoved e
+unfolding after
+unmoved-after k e = refl
+
+pub some-unmoved : (o : Option ℤ) (z : ℤ) (s : Step) → s ≡ unmoved z → IfSome o (λ code. z ≡ code) → IfSome o (λ code. s ≡ unmoved code)
+some-unmoved None z s e h = tt
+some-unmoved (Some code) z s e h = e ∙ ap unmoved h

@@ -1,6 +1,5 @@
 -- What a call of the system's read or write did, by its answer and the system's number for an error.
-use Rattle.std.specs.Prelude.{ℕ, zero, suc, ◌≤◌, ◌<◌, Bool, true, false, eqb, ℤ, pos, negsuc}
-use Rattle.base.specs.Base.{if◌then◌else◌}
+use Rattle.std.specs.Prelude.{ℕ, zero, suc, ◌≤◌, ◌<◌, Bool, true, false, eqb, ℤ, pos, negsuc, if◌then◌else◌}
 use Rattle.streams.specs.declared.calls.Step.{Step}
 use Rattle.streams.specs.declared.calls.Step.TheVariants.{Took, Nothing, Again, Wait, Failed}
 

@@ -1,6 +1,5 @@
 -- What a program counts that holds its answers to a list. Whether a write goes through is the system's; once one has not, none is counted as written.
-use Rattle.std.specs.Prelude.{ℕ, ◌+◌, ◌≡◌, Bool, true, false, ltb}
-use Rattle.base.specs.Base.{if◌then◌else◌}
+use Rattle.std.specs.Prelude.{ℕ, ◌+◌, ◌≡◌, Bool, true, false, ltb, if◌then◌else◌}
 use Rattle.streams.specs.declared.tally.Tally.{Tally}
 
 -- nothing read yet

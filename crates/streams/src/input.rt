@@ -5,8 +5,8 @@ ghost use Rattle.std.specs.Prelude.{◌≡◌, ◌≤◌, ◌<◌, length};
 ghost use Rattle.lines.specs.Held.{Held, uncut};
 ghost use Rattle.streams.specs.Supplied.{Refilled, spent, supplied};
 
-use crate::calls;
-use crate::calls::Step;
+use crate::calls::{Call, Step};
+use crate::{CanRead, calls, message};
 use lines::input::{Reader, begin, cut, last};
 
 // A reader with nothing to come and nothing held.
@@ -24,6 +24,7 @@ fn spent() -> Reader
 }
 
 // The reader after a read into its block. Of a line that was half read when a read failed nothing is held.
+#[tactic(auto, unfolding(crate::specs::Supplied::supplied))]
 fn supplied(r: Reader, s: Step) -> Reader
     ensures { result ≡ supplied r s }
 {
@@ -51,16 +52,16 @@ fn supplied(r: Reader, s: Step) -> Reader
 }
 
 // A read that failed is told of on standard error.
-fn told(s: Step) {
-    match s {
+fn told(rt: &impl Eprint, call: Call) {
+    match call.step {
         Step::Took(_) => {}
         Step::Nothing => {}
-        _ => os::fail(b"standard input"),
+        _ => message::failed(rt, "standard input", call.error),
     }
 }
 
 // A new block where the last one is used up, unless the input is over.
-fn refilled(r: Reader, block: &mut [u8]) -> Reader
+fn refilled(rt: &impl CanRead, r: Reader, block: &mut [u8]) -> Reader
     requires { (r.at ≤ r.end) × (r.end ≤ length block.old) }
     ensures at_le_end { (result.at ≤ result.end) × (result.end ≤ length block.new) × (result.filled ≤ r.filled) }
     ensures block_after { r.at < r.end → uncut result block.new ≡ uncut r block.old }
@@ -72,22 +73,22 @@ fn refilled(r: Reader, block: &mut [u8]) -> Reader
     if r.over {
         return r;
     }
-    let s = calls::read(block);
-    told(s);
-    supplied(r, s)
+    let call = calls::read(rt, block);
+    told(rt, call);
+    supplied(r, call.step)
 }
 
 // The rest of a line whose newline is not in the block: it is read on until there is one or the input is over. `whole` says whether there is a
 // line; there is none of a line that was half read when a read failed.
 // A proved loop has to end, and nothing says that a line does. So the turns are counted down from a number that no line uses up.
-pub fn finish(r: Reader, block: &mut [u8], line: &mut [u8]) -> Reader
+pub fn finish(rt: &impl CanRead, r: Reader, block: &mut [u8], line: &mut [u8]) -> Reader
     requires { Held r block.old line.old }
     ensures { Held result block.new line.new }
 {
     let mut t = r;
     let mut turns = u64::MAX;
     while turns > 0 {
-        t = refilled(t, block);
+        t = refilled(rt, t, block);
         if t.at == t.end {
             return last(t);
         }
@@ -101,7 +102,7 @@ pub fn finish(r: Reader, block: &mut [u8], line: &mut [u8]) -> Reader
 }
 
 // The next line, if `whole`.
-pub fn next(r: Reader, block: &mut [u8], line: &mut [u8]) -> Reader
+pub fn next(rt: &impl CanRead, r: Reader, block: &mut [u8], line: &mut [u8]) -> Reader
     requires { Held r block.old line.old }
     ensures { Held result block.new line.new }
 {
@@ -109,5 +110,5 @@ pub fn next(r: Reader, block: &mut [u8], line: &mut [u8]) -> Reader
     if t.whole {
         return t;
     }
-    finish(t, block, line)
+    finish(rt, t, block, line)
 }

@@ -2,19 +2,23 @@
 // Each function takes and answers whether every write so far went through, so that no program goes on by mistake.
 ghost use Rattle.std.specs.Prelude.{◌≡◌, false, ltb};
 
-use crate::calls;
 use crate::calls::Step;
+use crate::room::text_to;
+use crate::{CanWrite, calls, message};
+use std::env::FillError;
+use std::rt::Env;
 
 // Writes all of the bytes; whether it could.
-fn written(bytes: &[u8]) -> bool {
+fn written(rt: &impl CanWrite, bytes: &[u8]) -> bool {
     let mut at: usize = 0;
     while at < bytes.len() {
-        match calls::write(&bytes[at..]) {
+        let call = calls::write(rt, &bytes[at..]);
+        match call.step {
             Step::Took(n) => {
                 at += n;
             }
             _ => {
-                os::fail(b"standard output");
+                message::failed(rt, "standard output", call.error);
                 return false;
             }
         }
@@ -22,39 +26,53 @@ fn written(bytes: &[u8]) -> bool {
     true
 }
 
-pub fn put(ok: bool, bytes: &[u8]) -> bool
+pub fn put(rt: &impl CanWrite, ok: bool, bytes: &[u8]) -> bool
     ensures { ok ≡ false → result ≡ false }
 {
     if ok {
-        return written(bytes);
+        return written(rt, bytes);
     }
     false
 }
 
-pub fn put_decimal(ok: bool, n: u64) -> bool
+pub fn put_decimal(rt: &impl CanWrite, ok: bool, n: u64) -> bool
     ensures { ok ≡ false → result ≡ false }
 {
-    let mut text = [0u8; 20];
-    let k = io::decimal(n, &mut text);
-    put(ok, &text[..k])
+    let mut room = [0u8; 20];
+    let k = text_to(&mut room, format_args!("{n}"));
+    put(rt, ok, &room[..k])
 }
 
-pub fn put_hex(ok: bool, n: u64, width: usize) -> bool
+// A width of 0 counts as 1, and one above 16 as 16.
+pub fn put_hex(rt: &impl CanWrite, ok: bool, n: u64, width: usize) -> bool
     ensures { ok ≡ false → result ≡ false }
 {
-    let mut text = [0u8; 16];
-    let k = io::hex(n, width, &mut text);
-    put(ok, &text[..k])
+    let mut room = [0u8; 16];
+    let width = width.min(room.len());
+    let k = text_to(&mut room, format_args!("{n:0width$x}"));
+    put(rt, ok, &room[..k])
+}
+
+// The words that a program was started with, its name among them.
+pub fn words(rt: &impl Env) -> usize {
+    let mut none = [0u8; 0];
+    for i in 0..usize::MAX {
+        match rt.arg(i, &mut none) {
+            Err(FillError::NotPresent) => return i,
+            _ => {}
+        }
+    }
+    usize::MAX
 }
 
 // Whether a program whose words are so many, its name among them, was started with arguments. It takes none, so then it says on standard error
 // how it is used, and does nothing else.
-pub fn usage(words: usize, text: &[u8]) -> bool
+pub fn usage(rt: &impl Eprint, words: usize, text: &[u8]) -> bool
     ensures { result ≡ ltb 1 words }
 {
     if words <= 1 {
         return false;
     }
-    io::write_all(2, text);
+    message::tell(rt, text);
     true
 }

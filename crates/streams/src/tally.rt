@@ -2,6 +2,7 @@
 ghost use Rattle.std.specs.Prelude.{◌≡◌, false};
 ghost use Rattle.streams.specs.Tally.{started, one_more, passed_over, Compared};
 
+use crate::CanWrite;
 use crate::output::{put, put_decimal};
 
 // The lines read, the answers compared, those that differ, and whether every write so far went through.
@@ -32,12 +33,12 @@ fn more(n: u64) -> u64
 }
 
 // Names a line that has another answer.
-fn name(ok: bool, line: u64) -> bool
+fn name(rt: &impl CanWrite, ok: bool, line: u64) -> bool
     ensures { ok ≡ false → result ≡ false }
 {
-    let ok = put(ok, b"line ");
-    let ok = put_decimal(ok, line);
-    put(ok, b" differs\n")
+    let ok = put(rt, ok, b"line ");
+    let ok = put_decimal(rt, ok, line);
+    put(rt, ok, b" differs\n")
 }
 
 // A line that says something, and expects no answer.
@@ -53,7 +54,7 @@ pub fn passed_over(t: Tally) -> Tally
 }
 
 // A line whose answer is the expected one, or another.
-pub fn compared(t: Tally, same: bool) -> Tally
+pub fn compared(rt: &impl CanWrite, t: Tally, same: bool) -> Tally
     ensures { Compared t same result }
 {
     let line = more(t.line);
@@ -69,17 +70,17 @@ pub fn compared(t: Tally, same: bool) -> Tally
         line,
         compared: more(t.compared),
         differ: more(t.differ),
-        ok: name(t.ok, line),
+        ok: name(rt, t.ok, line),
     }
 }
 
 // How many of what were compared, and how many differ; whether every write went through.
-pub fn report(t: Tally, what: &[u8]) -> bool
+pub fn report(rt: &impl CanWrite, t: Tally, what: &[u8]) -> bool
     ensures { t.ok ≡ false → result ≡ false }
 {
-    let ok = put_decimal(t.ok, t.compared);
-    let ok = put(ok, what);
-    let ok = put(ok, b" compared, ");
-    let ok = put_decimal(ok, t.differ);
-    put(ok, b" differ\n")
+    let ok = put_decimal(rt, t.ok, t.compared);
+    let ok = put(rt, ok, what);
+    let ok = put(rt, ok, b" compared, ");
+    let ok = put_decimal(rt, ok, t.differ);
+    put(rt, ok, b" differ\n")
 }

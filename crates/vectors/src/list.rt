@@ -2,6 +2,7 @@
 ghost use Rattle.std.specs.Prelude.{◌≡◌, ◌<◌, ◌≤◌, length};
 ghost use Rattle.vectors.specs.Buffers.{Buffers, Replayed};
 
+use streams::CanWrite;
 use streams::output::{put, put_decimal};
 
 // How far the list is replayed: the length of the last schema's frame, the length of the answer's line to the last value without its
@@ -59,24 +60,24 @@ fn number(line: &[u8]) -> usize
 }
 
 // The line's place in the list, the crate's answer there, and the program's.
-fn report(ok: bool, place: u64, line: &[u8], got: &[u8]) -> bool {
-    let ok = put(ok, b"line ");
-    let ok = put_decimal(ok, place);
-    let ok = put(ok, b": expected ");
-    let ok = put(ok, line);
-    let ok = put(ok, b", got ");
-    let ok = put(ok, got);
-    put(ok, b"\n")
+fn report(rt: &impl CanWrite, ok: bool, place: u64, line: &[u8], got: &[u8]) -> bool {
+    let ok = put(rt, ok, b"line ");
+    let ok = put_decimal(rt, ok, place);
+    let ok = put(rt, ok, b": expected ");
+    let ok = put(rt, ok, line);
+    let ok = put(rt, ok, b", got ");
+    let ok = put(rt, ok, got);
+    put(rt, ok, b"\n")
 }
 
-fn compare(r: Replay, line: &[u8], got: &[u8], counts: &mut [u64]) -> Replay
+fn compare(rt: &impl CanWrite, r: Replay, line: &[u8], got: &[u8], counts: &mut [u64]) -> Replay
     requires { Replayed r × (length counts.old ≡ 100) }
     ensures { Replayed result }
 {
     let n = number(line);
-    counts[n] = std::num::wrapping_add_u64(counts[n], 1);
-    let compared = std::num::wrapping_add_u64(r.compared, 1);
-    if check::same(line, got) {
+    counts[n] = counts[n].wrapping_add(1);
+    let compared = r.compared.wrapping_add(1);
+    if text::same(line, got) {
         return Replay {
             schema: r.schema,
             got: r.got,
@@ -91,8 +92,8 @@ fn compare(r: Replay, line: &[u8], got: &[u8], counts: &mut [u64]) -> Replay
         got: r.got,
         lines: r.lines,
         compared,
-        differ: std::num::wrapping_add_u64(r.differ, 1),
-        ok: report(r.ok, r.lines, line, got),
+        differ: r.differ.wrapping_add(1),
+        ok: report(rt, r.ok, r.lines, line, got),
     }
 }
 
@@ -162,7 +163,7 @@ fn next(r: Replay) -> Replay
     Replay {
         schema: r.schema,
         got: r.got,
-        lines: std::num::wrapping_add_u64(r.lines, 1),
+        lines: r.lines.wrapping_add(1),
         compared: r.compared,
         differ: r.differ,
         ok: r.ok,
@@ -170,6 +171,7 @@ fn next(r: Replay) -> Replay
 }
 
 pub fn step(
+    rt: &impl CanWrite,
     r: Replay,
     line: &[u8],
     schema: &mut [u8],
@@ -195,5 +197,5 @@ pub fn step(
         return value_line(t, line, &schema[0..n], value, res, workspace, out);
     }
     let got = t.got;
-    compare(t, line, &out[0..got], counts)
+    compare(rt, t, line, &out[0..got], counts)
 }

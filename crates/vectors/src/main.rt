@@ -9,10 +9,13 @@ ghost use Rattle.std.specs.Prelude.{◌≡◌, length};
 ghost use Rattle.vectors.specs.Buffers.{Buffers};
 
 use crate::list::Replay;
+use std::rt::Env;
 use streams::output::{put, put_decimal};
+use streams::{CanRead, CanWrite};
 
 // A proved loop has to end, and nothing says that the input does. So the turns are counted down from a number that no run uses up.
 fn run(
+    rt: &(impl CanRead + CanWrite),
     block: &mut [u8],
     line: &mut [u8],
     schema: &mut [u8],
@@ -28,64 +31,75 @@ fn run(
     let mut t = list::start();
     let mut turns = u64::MAX;
     while turns > 0 {
-        r = streams::input::next(r, block, line);
+        r = streams::input::next(rt, r, block, line);
         if !r.whole {
             return t;
         }
         let n = r.filled;
-        t = list::step(t, &line[0..n], schema, value, res, workspace, out, counts);
+        t = list::step(
+            rt,
+            t,
+            &line[0..n],
+            schema,
+            value,
+            res,
+            workspace,
+            out,
+            counts,
+        );
         turns -= 1;
     }
     t
 }
 
 // A line with a count behind its words.
-fn counted(ok: bool, words: &[u8], n: u64) -> bool {
-    let ok = put(ok, words);
-    let ok = put_decimal(ok, n);
-    put(ok, b"\n")
+fn counted(rt: &impl CanWrite, ok: bool, words: &[u8], n: u64) -> bool {
+    let ok = put(rt, ok, words);
+    let ok = put_decimal(rt, ok, n);
+    put(rt, ok, b"\n")
 }
 
 // A line for a number that the list's refusals have, and how many have it.
-fn refusal(ok: bool, number: u64, n: u64) -> bool {
-    let ok = put(ok, b"refused with ");
-    let ok = put_decimal(ok, number);
-    counted(ok, b": ", n)
+fn refusal(rt: &impl CanWrite, ok: bool, number: u64, n: u64) -> bool {
+    let ok = put(rt, ok, b"refused with ");
+    let ok = put_decimal(rt, ok, number);
+    counted(rt, ok, b": ", n)
 }
 
 // How many of the list's answers are refusals with each number that it has.
-fn refusals(first: bool, counts: &[u64])
+fn refusals(rt: &impl CanWrite, first: bool, counts: &[u64])
     requires { length counts.now ≡ 100 }
 {
     let mut ok = first;
     let mut n: usize = 1;
     while n < 100 {
         if 0 < counts[n] {
-            ok = refusal(ok, n as u64, counts[n]);
+            ok = refusal(rt, ok, n as u64, counts[n]);
         }
         n += 1;
     }
 }
 
 // How many answers were compared and differ, and how many of the list's are accepted.
-fn totals(t: Replay, accepted: u64) -> bool {
-    let ok = put_decimal(t.ok, t.compared);
-    let ok = put(ok, b" answers compared, ");
-    let ok = put_decimal(ok, t.differ);
-    let ok = put(ok, b" differ\n");
-    counted(ok, b"accepted: ", accepted)
+fn totals(rt: &impl CanWrite, t: Replay, accepted: u64) -> bool {
+    let ok = put_decimal(rt, t.ok, t.compared);
+    let ok = put(rt, ok, b" answers compared, ");
+    let ok = put_decimal(rt, ok, t.differ);
+    let ok = put(rt, ok, b" differ\n");
+    counted(rt, ok, b"accepted: ", accepted)
 }
 
 // Whether there are arguments; the usage then.
-fn asked() -> bool {
+fn asked(rt: &(impl Env + Eprint)) -> bool {
     streams::output::usage(
-        os::arg_count(),
+        rt,
+        streams::output::words(rt),
         b"usage: vectors < LIST\nReads a list of recorded answers from standard input. It takes no arguments.\n",
     )
 }
 
-fn main() {
-    if asked() {
+fn main(rt: HostRuntime) {
+    if asked(&rt) {
         return;
     }
     let mut block = [0u8; 65536];
@@ -97,6 +111,7 @@ fn main() {
     let mut out = [0u8; 131073];
     let mut counts = [0u64; 100];
     let t = run(
+        &rt,
         &mut block,
         &mut line,
         &mut schema,
@@ -106,6 +121,6 @@ fn main() {
         &mut out,
         &mut counts,
     );
-    let ok = totals(t, counts[0]);
-    refusals(ok, &counts);
+    let ok = totals(&rt, t, counts[0]);
+    refusals(&rt, ok, &counts);
 }
