@@ -1,4 +1,4 @@
-// The public entries: a record brought to a reader schema, and the current finish of each sail. All entries for C are here.
+// The public entries: a record brought to a reader schema, and the current finish of each sail. Those that crate hulmbax_c exports to C are here.
 #![tactic(auto)]
 
 ghost use Rattle.std.specs.Prelude.{◌≡◌, ◌-◌, length};
@@ -144,13 +144,7 @@ fn code(r: Resolved) -> i32
 }
 
 // The same entry for C and Rust: what `resolve` does, and its answer as one number.
-#[unsafe(no_mangle)]
-pub extern "C" fn hulmbax_resolve(
-    schema: &[u8],
-    record: &[u8],
-    res: &mut [u8],
-    workspace: &mut [u8],
-) -> i32
+pub fn hulmbax_resolve(schema: &[u8], record: &[u8], res: &mut [u8], workspace: &mut [u8]) -> i32
     ensures answer { result ≡ code_of (resolved_of (answer schema.now «record».now (length res.old) (length workspace.old))) }
     ensures contents { res.new ≡ buffer_after (answer schema.now «record».now (length res.old) (length workspace.old)) res.old }
     ensures cleared { workspace.new ≡ workspace_after (answer schema.now «record».now (length res.old) (length workspace.old)) workspace.old }
@@ -186,13 +180,7 @@ pub fn current(input: &[u8], ends: &[usize], res: &mut [u8], workspace: &mut [u8
 }
 
 // The same entry for C and Rust: what `current` does, and its answer as one number.
-#[unsafe(no_mangle)]
-pub extern "C" fn hulmbax_current(
-    input: &[u8],
-    ends: &[usize],
-    res: &mut [u8],
-    workspace: &mut [u8],
-) -> i32
+pub fn hulmbax_current(input: &[u8], ends: &[usize], res: &mut [u8], workspace: &mut [u8]) -> i32
     ensures answer { result ≡ code_of (resolved_of (names input.now ends.now (length res.old) (length workspace.old))) }
     ensures contents { res.new ≡ buffer_after (names input.now ends.now (length res.old) (length workspace.old)) res.old }
     ensures cleared { workspace.new ≡ workspace_after (names input.now ends.now (length res.old) (length workspace.old)) workspace.old }
@@ -203,8 +191,7 @@ pub extern "C" fn hulmbax_current(
 // ---- the calendar's entries for C (docs/RULES.md, "Dates and instants"); `calendar` has them by value
 
 // The year, month and day of a Date, in the first three slots: 3, or 18 where there are fewer.
-#[unsafe(no_mangle)]
-pub extern "C" fn hulmbax_civil(date: i32, slots: &mut [i32]) -> i32
+pub fn hulmbax_civil(date: i32, slots: &mut [i32]) -> i32
     ensures answer { result ≡ code_for (civil_for date (length slots.old)) }
     ensures contents { slots.new ≡ buffer_after (civil_for date (length slots.old)) slots.old }
 {
@@ -212,8 +199,7 @@ pub extern "C" fn hulmbax_civil(date: i32, slots: &mut [i32]) -> i32
 }
 
 // The Date of a day, in the first slot: 1, or 27, then 18.
-#[unsafe(no_mangle)]
-pub extern "C" fn hulmbax_date(year: i32, month: i32, day: i32, date: &mut [i32]) -> i32
+pub fn hulmbax_date(year: i32, month: i32, day: i32, date: &mut [i32]) -> i32
     ensures answer { result ≡ code_for (date_for year month day (length date.old)) }
     ensures contents { date.new ≡ buffer_after (date_for year month day (length date.old)) date.old }
 {
@@ -221,8 +207,7 @@ pub extern "C" fn hulmbax_date(year: i32, month: i32, day: i32, date: &mut [i32]
 }
 
 // A Duration added to an instant, both frames: the length of the sum's frame, or 5, 6, 26, 27, then 18.
-#[unsafe(no_mangle)]
-pub extern "C" fn hulmbax_add(instant: &[u8], duration: &[u8], res: &mut [u8]) -> i32
+pub fn hulmbax_add(instant: &[u8], duration: &[u8], res: &mut [u8]) -> i32
     ensures answer { result ≡ code_for (sum_for instant.now duration.now (length res.old)) }
     ensures contents { res.new ≡ buffer_after (sum_for instant.now duration.now (length res.old)) res.old }
 {
@@ -230,8 +215,7 @@ pub extern "C" fn hulmbax_add(instant: &[u8], duration: &[u8], res: &mut [u8]) -
 }
 
 // Whether the window from opening to before closing holds an instant, all frames: 1 or 0, or 5, then 6.
-#[unsafe(no_mangle)]
-pub extern "C" fn hulmbax_holds(opening: &[u8], closing: &[u8], instant: &[u8]) -> i32
+pub fn hulmbax_holds(opening: &[u8], closing: &[u8], instant: &[u8]) -> i32
     ensures { result ≡ held_code (held_for opening.now closing.now instant.now) }
 {
     instants::holds(opening, closing, instant)
