@@ -5,7 +5,7 @@ usage: python3 tools/respell.py [--list] [FOLDER]      (FOLDER: the repository's
 
 A name that specs/ or proofs/ declare and that begins with a small letter gets an underscore at each capital inside a part of it; a name that
 specs/ declare also gets an underscore for each dash, but where it is a law (it stands in a file with 'unfolding', or holds a sign). Types and
-modules keep their capitals. Two crates that have the name of a library of the kit get another. The script then writes the new names wherever the old ones stand: in specs/ and proofs/, in the clauses and ghost
+modules keep their capitals. The choice `if◌then◌else◌` of crate base is `when◌then◌else◌`. Two crates that have the name of a library of the kit get another. The script then writes the new names wherever the old ones stand: in specs/ and proofs/, in the clauses and ghost
 imports of src/, in must-fail/ and between backticks of the pages. A middle dot between a module and a name, in an import, goes.
 """
 
@@ -114,6 +114,45 @@ def move_crates(top):
             open(p, "w", encoding="utf-8").write(new)
 
 
+# The choice of base chains its else to the right, which the library's of that name does not, so it has a name of its own.
+IF = "if◌then◌else◌"
+BRANCH = re.compile(r"(?<![\w'.◌-])if(?![\w'◌-])")
+
+
+def chosen(line):
+    """One line of antt: what stands in front of a comment."""
+    m = re.match(r"(.*?)((?:^|\s)--(?:\s.*)?)?$", line)
+    return BRANCH.sub("when", m[1]) + (m[2] or "")
+
+
+def turn_choice(top):
+    for p in sorted(glob.glob(os.path.join(top, "crates", "**", "*.*"), recursive=True)):
+        if "/out/" in p or not p.endswith((".antt", ".rt", ".edit")):
+            continue
+        text = open(p, encoding="utf-8").read()
+        if p.endswith(".edit"):
+            new = "\n".join(
+                BRANCH.sub("when", n).replace(IF, IF.replace("if", "when")) if n.startswith(("old: ", "new: ")) and re.search(r"\bthen\b", n) else n
+                for n in text.split("\n"))
+        elif not re.search(rf"Rattle\.base\.specs\.Base\.\{{[^}}]*{IF}", text) and "infixr 1 " + IF not in text:
+            continue
+        elif p.endswith(".antt"):
+            new = "\n".join(chosen(n) for n in text.split("\n")).replace(IF, IF.replace("if", "when"))
+        else:
+            out, depth, inside = [], 0, False
+            for line in text.split("\n"):
+                if not inside and re.match(r"\s*(ghost\b|requires\b|ensures\b|requires\*|ensures\*)", line):
+                    inside, depth = True, 0
+                if inside:
+                    line = BRANCH.sub("when", line).replace(IF, IF.replace("if", "when"))
+                    depth += line.count("{") - line.count("}")
+                    inside = depth > 0
+                out.append(line)
+            new = "\n".join(out)
+        if new != text:
+            open(p, "w", encoding="utf-8").write(new)
+
+
 def main():
     args = [a for a in sys.argv[1:] if a != "--list"]
     top = args[0] if args else "."
@@ -143,6 +182,7 @@ def main():
         new = re.sub(r"`[^`\n]+`", lambda m: turn(m[0], names), text)
         if new != text:
             open(p, "w", encoding="utf-8").write(new)
+    turn_choice(top)
 
 
 if __name__ == "__main__":

@@ -7,7 +7,7 @@ use mathlib.Core.Bool.{Bool, true, false}
 use native.Mathlib.Omega.{arith}
 use lib.Dec.{ltb}
 use lib.ListN.{length, take, drop}
-use Rattle.base.specs.Base.{if◌then◌else◌, Result, ok, stop}
+use Rattle.base.specs.Base.{when◌then◌else◌, Result, ok, stop}
 use Rattle.uuid_text.specs.Rfc4122.{small_digit}
 use Rattle.hex_text.specs.Hex.{decimal}
 use Rattle.buffer.specs.After.{buffer_after}
@@ -44,7 +44,7 @@ decimal-short : (n : ℕ) → length (decimal n) ≤ 2
 unfolding decimal
 decimal-short n = go (ltb n 10)
   where
-    go : (b : Bool) → length (if b then small_digit n ∷ [] else small_digit (n / 10) ∷ small_digit (n % 10) ∷ []) ≤ 2
+    go : (b : Bool) → length (when b then small_digit n ∷ [] else small_digit (n / 10) ∷ small_digit (n % 10) ∷ []) ≤ 2
     go true = omega arith
     go false = omega arith
 

@@ -8,7 +8,7 @@ use native.Mathlib.Omega.{arith}
 use borrow.Author.Tests.{ltb-true, lt-ltb}
 use lib.Dec.{ltb}
 use lib.ListN.{length}
-use Rattle.base.specs.Base.{if◌then◌else◌}
+use Rattle.base.specs.Base.{when◌then◌else◌}
 use Rattle.text.specs.Text.{Text}
 use Rattle.text.specs.Read.{Read}
 use Rattle.uuid_text.specs.Uuid.{hex_digit, hex_pair, hex_bytes}
@@ -56,7 +56,7 @@ module _ {A : Type 0} (p : List ℕ → Read A) (empty : whole p [] ≡ none) (r
   unfolding held_frame
   held-decodes = go (ltb room (length l / 2)) refl
     where
-      go : (b : Bool) → ltb room (length l / 2) ≡ b → whole p (if b then [] else frame_of l) ≡ whole p (frame_of l)
+      go : (b : Bool) → ltb room (length l / 2) ≡ b → whole p (when b then [] else frame_of l) ≡ whole p (frame_of l)
       go true e = empty ∙ sym (long-frame (ltb-true room (length l / 2) e))
       go false e = refl
 

@@ -6,7 +6,7 @@ use mathlib.Core.Logic.{◌⊎◌, inl, inr}
 use mathlib.Core.Bool.{Bool, true, false, ◌&&◌, ◌||◌, not}
 use lib.Dec.{T, leb, eqb, leb→le, eqb→eq}
 use lib.Ieee.Fits.{and_l, and_r}
-use Rattle.base.specs.Base.{if◌then◌else◌, Result, ok, stop, after, within}
+use Rattle.base.specs.Base.{when◌then◌else◌, Result, ok, stop, after, within}
 use Rattle.base.proofs.Okay.{Okay}
 use Rattle.avro.specs.Numbers.{is_in, resolution_numbers, listed}
 
@@ -14,7 +14,7 @@ abbrev pub Ends : {A : Type 0} → (A → Type 0) → Result A → Type 0
 Ends P (ok a) = P a
 Ends P (stop n) = T (listed n)
 
-pub ends-if : {A : Type 0} (P : A → Type 0) (b : Bool) (x y : Result A) → (T b → Ends P x) → (T (not b) → Ends P y) → Ends P (if b then x else y)
+pub ends-if : {A : Type 0} (P : A → Type 0) (b : Bool) (x y : Result A) → (T b → Ends P x) → (T (not b) → Ends P y) → Ends P (when b then x else y)
 ends-if P true x y f g = f tt
 ends-if P false x y f g = g tt
 

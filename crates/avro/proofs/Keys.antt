@@ -6,7 +6,7 @@ use mathlib.Core.Option.{Option, none, some, or_else}
 use mathlib.Core.Bool.{Bool, true, false}
 use lib.Dec.{T}
 use lib.Ieee.Fits.{and_l, and_r, and_i}
-use Rattle.base.specs.Base.{if◌then◌else◌}
+use Rattle.base.specs.Base.{when◌then◌else◌}
 use Rattle.base.proofs.Okay.{Okay, Found}
 use Rattle.text.specs.Text.{Text, same}
 use Rattle.frame.specs.Kind
@@ -91,7 +91,7 @@ unfolding keys_rise last_under or_else
 keys-last_under n no_entries k = tt
 keys-last_under n (entry m v es) k = go (last_under n es) (same m n) (and_l (keys_rise v) (entry_keys_rise es) k) (keys-last_under n es (and_r (keys_rise v) (entry_keys_rise es) k))
   where
-    go : (o : Option Value) (c : Bool) → Rising v → Found Rising o → Found Rising (or_else o (if c then some v else none))
+    go : (o : Option Value) (c : Bool) → Rising v → Found Rising o → Found Rising (or_else o (when c then some v else none))
     go none true p q = p
     go none false p q = tt
     go (some w) c p q = q

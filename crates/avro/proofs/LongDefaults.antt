@@ -10,7 +10,7 @@ use lib.Arith.{lt→nleb}
 use lib.ListN.{length}
 use lib.Ieee.Bits.{is_false}
 use lib.Ieee.Fits.{and_l}
-use Rattle.base.specs.Base.{if◌then◌else◌, ok, stop, after}
+use Rattle.base.specs.Base.{when◌then◌else◌, ok, stop, after}
 use Rattle.number.specs.Number.{bytes_of}
 use Rattle.text.specs.Text.{Text}
 use Rattle.frame.specs.Kind
@@ -105,7 +105,7 @@ own-long n d a vs ks ns fs e = go (eqb (schema_kind a) Kind.Null) refl e
     outcome (ok r) q k e = size r q k (leb (length (encode_value r)) 4096) refl e
     outcome (stop m) q k e = true-not-false e
 
-    go : (b : Bool) → eqb (schema_kind a) Kind.Null ≡ b → short_start (after (if b then ok (Value.Scalar Kind.Null 0) else resolve a d) (λ r. ok (Value.Union 0 r))) ≡ false
+    go : (b : Bool) → eqb (schema_kind a) Kind.Null ≡ b → short_start (after (when b then ok (Value.Scalar Kind.Null 0) else resolve a d) (λ r. ok (Value.Union 0 r))) ≡ false
         → LongField (field n (some d) (Schema.Union (variant a vs) ks ns) fs)
     go true p e = true-not-false e
     go false p e = outcome (resolve a d) refl (rw p tt) e

@@ -10,7 +10,7 @@ use lib.Dec.{T, leb, ltb, eqb, ltb→lt, lt→ltb, leb→le, eqb→eq, eqb_refl,
 use lib.ListN.{length, get_or}
 use lib.Ieee.Bits.{is_true, is_false}
 use lib.Ieee.Fits.{and_l, and_r, and_i, eq→eqb}
-use Rattle.base.specs.Base.{if◌then◌else◌, ok, stop}
+use Rattle.base.specs.Base.{when◌then◌else◌, ok, stop}
 use Rattle.base.proofs.AllBelow.{all_below, all_below-lookup}
 use Rattle.base.proofs.Okay.{Found}
 use Rattle.utf8.specs.Utf8.{is_utf8, code_points}
@@ -112,7 +112,7 @@ held-octets k b (suc e) h = h
 no-nan-of : (k n : ℕ) → T (no_float k) → T (not (nan_of k n))
 no-nan-of k n h = go (eqb k Kind.Float) (eqb k Kind.Double) h
   where
-    go : (a b : Bool) → T (not a && not b) → T (not (if a then float_is_nan n else if b then double_is_nan n else false))
+    go : (a b : Bool) → T (not a && not b) → T (not (when a then float_is_nan n else when b then double_is_nan n else false))
     go true b h = absurd h
     go false true h = absurd h
     go false false h = tt
@@ -556,7 +556,7 @@ unfolding position symbol_at next_place
 position-found s [] = tt
 position-found s (t ∷ ts) = go (same t s) refl (position s ts) (position-found s ts)
   where
-    go : (b : Bool) → same t s ≡ b → (o : Option ℕ) → Found (λ i. T (symbol_at ts i s)) o → Found (λ i. T (symbol_at (t ∷ ts) i s)) (if b then some 0 else next_place o)
+    go : (b : Bool) → same t s ≡ b → (o : Option ℕ) → Found (λ i. T (symbol_at ts i s)) o → Found (λ i. T (symbol_at (t ∷ ts) i s)) (when b then some 0 else next_place o)
     go true e o p = subst (λ (b : Bool). T b) (sym e) tt
     go false e none p = tt
     go false e (some i) p = p

@@ -6,7 +6,7 @@ use native.Mathlib.Omega.{arith}
 use lib.Dec.{T, eqb, eqb→eq}
 use lib.ListN.{length}
 use lib.Ieee.Fits.{and_l, and_r, and_i}
-use Rattle.base.specs.Base.{if◌then◌else◌}
+use Rattle.base.specs.Base.{when◌then◌else◌}
 use Rattle.text.specs.Text.{same}
 use Rattle.frame.specs.Kind
 use Rattle.frame.specs.Tree.{Value, Values, Entries, Schema, Fields, Variants, UuidForm, no_items, item, no_entries, entry, no_fields, field, no_variants, variant, kind_of, is, index, octets, items, entries, peel}
@@ -41,7 +41,7 @@ alone : (a : Bool) → a ≡ (a && true)
 alone a = sym (and-true a)
 
 -- one field, by its name, its value and what is left of the record
-one_field : (n a x fa na ef other : Bool) → ((n && (a && x)) && (fa && (na && ef))) ≡ ((if n then a && fa else other) && ((n && na) && (x && ef)))
+one_field : (n a x fa na ef other : Bool) → ((n && (a && x)) && (fa && (na && ef))) ≡ ((when n then a && fa else other) && ((n && na) && (x && ef)))
 one_field true true true fa na ef other = refl
 one_field true true false true true ef other = refl
 one_field true true false true false ef other = refl
@@ -99,7 +99,7 @@ unfolding all_entries
 entries-mono f g e no_entries h = tt
 entries-mono f g e (entry n v es) h = and_both (f v) (all_entries f es) (g v) (all_entries g es) (e v) (entries-mono f g e es) h
 
-either : (n a b c d : Bool) → (T a → T b) → (T c → T d) → T (if n then a else c) → T (if n then b else d)
+either : (n a b c d : Bool) → (T a → T b) → (T c → T d) → T (when n then a else c) → T (when n then b else d)
 either true a b c d f g h = f h
 either false a b c d f g h = g h
 

@@ -8,7 +8,7 @@ use native.Mathlib.Omega.{arith}
 use lib.Dec.{T}
 use lib.Ieee.Bits.{is_true}
 use lib.Ieee.Fits.{and_i}
-use Rattle.base.specs.Base.{if◌then◌else◌, ok, stop}
+use Rattle.base.specs.Base.{when◌then◌else◌, ok, stop}
 use Rattle.base.proofs.Okay.{Okay}
 use Rattle.text.specs.Text.{Text, ascii, same}
 use Rattle.rounding.specs.Rounding.{infinity, signed, convert_magnitude, convert}
@@ -71,7 +71,7 @@ abbrev Of28 : Value → Outcome → Type 0
 Of28 w (ok r) = Unit
 Of28 w (stop n) = n ≡ 28 → NotANumber w
 
-of-if : (w : Value) (b : Bool) (x y : Outcome) → (T b → Of28 w x) → (T (not b) → Of28 w y) → Of28 w (if b then x else y)
+of-if : (w : Value) (b : Bool) (x y : Outcome) → (T b → Of28 w x) → (T (not b) → Of28 w y) → Of28 w (when b then x else y)
 of-if w true x y f g = f tt
 of-if w false x y f g = g tt
 
@@ -107,7 +107,7 @@ module _ (w : Value) where
       go (bytes b q) = subst NotANumber (sym (q ∙ ap (Value.Octets Kind.String) (sym (ap octets q) ∙ e))) nan_text
 
   -- the bits b, of which n says whether they are a NaN's
-  by_bits : (j b : ℕ) (n : Bool) → (T n → NotANumber w) → Of28 w (if n then stop 28 else ok (Value.Scalar j b))
+  by_bits : (j b : ℕ) (n : Bool) → (T n → NotANumber w) → Of28 w (when n then stop 28 else ok (Value.Scalar j b))
   by_bits j b n f = of-if w n _ _ (λ h _. f h) (λ _. tt)
 
   by-float : (b : ℕ) → (T (float_is_nan b) → NotANumber w) → Of28 w (float_of_bits b)

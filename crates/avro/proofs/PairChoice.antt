@@ -9,7 +9,7 @@ use lib.Dec.{T, leb, ltb, eqb, eqb→eq, not_T, T_not, ltb→lt}
 use lib.ListN.{length, get_or}
 use lib.Ieee.Bits.{is_true, is_false}
 use lib.Ieee.Fits.{and_l, and_r}
-use Rattle.base.specs.Base.{if◌then◌else◌, ok, stop, after, accepted}
+use Rattle.base.specs.Base.{when◌then◌else◌, ok, stop, after, accepted}
 use Rattle.base.proofs.Okay.{Okay, okay-if, Found}
 use Rattle.frame.specs.Kind
 use Rattle.frame.specs.Tree.{Value, Schema, UuidForm, kind_of, is, octets, index, items, entries, peel, schema_kind}
@@ -103,7 +103,7 @@ table-null z (e ∷ es) h =
     (table-null z es (and_r (beq (eqb e.0 Kind.Null) (eqb e.1 z)) (only_null_leads_to z es) h))
   where
     go : (a b : Bool) → eqb e.1 z ≡ b → T (beq a b) → Found (λ p. p ≡ z) (lookup_kind Kind.Null es)
-        → Found (λ p. p ≡ z) (if a then some e.1 else lookup_kind Kind.Null es)
+        → Found (λ p. p ≡ z) (when a then some e.1 else lookup_kind Kind.Null es)
     go true true q t r = eqb→eq e.1 z (subst (λ (b : Bool). T b) (sym q) tt)
     go true false q t r = absurd t
     go false b q t r = r
@@ -126,7 +126,7 @@ table-other z count least u (e ∷ es) n h s =
 
     go : (a : Bool) → eqb e.0 u ≡ a → T (beq (eqb e.0 Kind.Null) (eqb e.1 z)) → e.1 < count
         → Found (λ p. T (not (eqb p z)) × (p < count)) (lookup_kind u es)
-        → Found (λ p. T (not (eqb p z)) × (p < count)) (if a then some e.1 else lookup_kind u es)
+        → Found (λ p. T (not (eqb p z)) × (p < count)) (when a then some e.1 else lookup_kind u es)
     go true q t l r =
         let k : e.0 ≡ u = eqb→eq e.0 u (subst (λ (b : Bool). T b) (sym q) tt) in
         (other (eqb e.1 z) (rw (is_false (eqb u Kind.Null) n) at (rw k at t)), l)
@@ -143,7 +143,7 @@ unnamed-other k h =
     (found-if (eqb k Kind.Duration || eqb k Kind.Record || eqb k Kind.Enum || eqb k Kind.Fixed) none (some k) tt h))))
   where
     found-if : (b : Bool) (x y : Option ℕ) → Found (λ u. T (not (eqb u Kind.Null))) x → Found (λ u. T (not (eqb u Kind.Null))) y
-        → Found (λ u. T (not (eqb u Kind.Null))) (if b then x else y)
+        → Found (λ u. T (not (eqb u Kind.Null))) (when b then x else y)
     found-if true x y p q = p
     found-if false x y p q = q
 
@@ -154,7 +154,7 @@ unfolding take_variant
 take_found P ts none p = tt
 take_found P ts (some i) p = go (must_be_tried (get_or ts i no_trial).kind && not (accepted (get_or ts i no_trial).outcome))
   where
-    go : (b : Bool) → Found P (if b then none else some i)
+    go : (b : Bool) → Found P (when b then none else some i)
     go true = tt
     go false = p
 
@@ -166,7 +166,7 @@ choose-is ts none (some n) q p r f = ap {B = Option ℕ} some r
 choose-is ts (some u) none q p r f = ap {B = Option ℕ} some p
 choose-is ts (some u) (some n) q p r f = chosen-both ts u n ∙ go (ltb u n)
   where
-    go : (b : Bool) → (if b then some u else some n) ≡ some q
+    go : (b : Bool) → (when b then some u else some n) ≡ some q
     go true = ap {B = Option ℕ} some p
     go false = ap {B = Option ℕ} some r
 
@@ -184,7 +184,7 @@ named-found ts q h [] (some k) = tt
 named-found ts q h (i ∷ ns) (some k) = go (eqb (get_or ts i no_trial).base k) (accepted (get_or ts i no_trial).outcome) refl (named-found ts q h ns (some k))
   where
     go : (a b : Bool) → accepted (get_or ts i no_trial).outcome ≡ b → Found (λ i. i ≡ q) (named_variant ts ns (some k))
-        → Found (λ i. i ≡ q) (if a && b then some i else named_variant ts ns (some k))
+        → Found (λ i. i ≡ q) (when a && b then some i else named_variant ts ns (some k))
     go true true e r = h i (subst (λ (b : Bool). T b) (sym e) tt)
     go true false e r = r
     go false b e r = r
@@ -276,7 +276,7 @@ module _ (a b : Schema) (ks : List (ℕ × ℕ)) (ns : List ℕ) (ua : T (not (e
   unfolding nullable_pair
   find-0 x p = go (is_null a) refl table
     where
-      go : (c : Bool) → is_null a ≡ c → T (if c then not (is_null b) && only_null_leads_to 0 ks else is_null b && only_null_leads_to 1 ks)
+      go : (c : Bool) → is_null a ≡ c → T (when c then not (is_null b) && only_null_leads_to 0 ks else is_null b && only_null_leads_to 1 ks)
           → find_schema_with_known_schemata (trials (pair a b) x) ks ns (kind_of x) ≡ some 0
       go true e t =
           rw (null-fits a (subst (λ (c : Bool). T c) (sym e) tt) x p.fitting)
@@ -292,7 +292,7 @@ module _ (a b : Schema) (ks : List (ℕ × ℕ)) (ns : List ℕ) (ua : T (not (e
   unfolding nullable_pair
   find-1 x p = go (is_null a) refl table
     where
-      go : (c : Bool) → is_null a ≡ c → T (if c then not (is_null b) && only_null_leads_to 0 ks else is_null b && only_null_leads_to 1 ks)
+      go : (c : Bool) → is_null a ≡ c → T (when c then not (is_null b) && only_null_leads_to 0 ks else is_null b && only_null_leads_to 1 ks)
           → find_schema_with_known_schemata (trials (pair a b) x) ks ns (kind_of x) ≡ some 1
       go true e t =
           let na : T (is_null a) = subst (λ (c : Bool). T c) (sym e) tt in

@@ -7,7 +7,7 @@ use mathlib.Core.Bool.{Bool, true, false, ◌&&◌, not, beq}
 use lib.Dec.{T, eqb, eqb→eq, eqb_refl}
 use lib.Ieee.Bits.{is_true, is_false}
 use lib.Ieee.Fits.{and_l, and_r, and_i}
-use Rattle.base.specs.Base.{if◌then◌else◌}
+use Rattle.base.specs.Base.{when◌then◌else◌}
 use Rattle.frame.specs.Kind
 use Rattle.frame.specs.Tree.{Schema, Variants, no_variants, variant}
 use Rattle.avro.specs.Pairs.{is_null, only_null_leads_to, nullable_pair}
@@ -79,7 +79,7 @@ pair-told no_variants ks h = absurd h
 pair-told (variant a no_variants) ks h = absurd h
 pair-told (variant a (variant b no_variants)) ks h = go (is_null a) refl h
   where
-    go : (x : Bool) → is_null a ≡ x → T (if x then not (is_null b) && only_null_leads_to 0 ks else is_null b && only_null_leads_to 1 ks) → NullablePair ks (variant a (variant b no_variants))
+    go : (x : Bool) → is_null a ≡ x → T (when x then not (is_null b) && only_null_leads_to 0 ks else is_null b && only_null_leads_to 1 ks) → NullablePair ks (variant a (variant b no_variants))
     go true e h = null-first {a = a} {b = b} (rw e tt) (and_l (not (is_null b)) (only_null_leads_to 0 ks) h) (table-told 0 ks (and_r (not (is_null b)) (only_null_leads_to 0 ks) h))
     go false e h = null-second {a = a} {b = b} (rw e tt) (and_l (is_null b) (only_null_leads_to 1 ks) h) (table-told 1 ks (and_r (is_null b) (only_null_leads_to 1 ks) h))
 pair-told (variant a (variant b (variant c vs))) ks h = absurd h

@@ -10,7 +10,7 @@ use native.Mathlib.Omega.{arith}
 use lib.Dec.{eqb}
 use lib.ListN.{length, get_or}
 use borrow.Author.Tests.{eq-eqb, ne_eqb, lt-ltb, le-ltb, eqb-true}
-use Rattle.base.specs.Base.{if◌then◌else◌, ok, stop, after, accepted}
+use Rattle.base.specs.Base.{when◌then◌else◌, ok, stop, after, accepted}
 use Rattle.frame.specs.Kind
 use Rattle.frame.specs.Tree.{Value, Schema, UuidForm, Fields, Variants, variant, kind_of, peel, schema_kind, schema_to_base_schemakind}
 use Rattle.avro.specs.Union.{Trial, no_trial, unnamed_kind, named_kind, lookup_kind, table_lookup, must_be_tried, take_variant, unnamed_variant, takes, named_variant, first_that_resolves, choose, find_schema_with_known_schemata, in_union, resolve_union, position_of}
@@ -85,15 +85,15 @@ pub record FirstOfKind (ks : List (ℕ × ℕ)) (k i j : ℕ) : Type 0 where
   pub position : (get_or ks j (0, 0)).1 ≡ i
   pub before : (m : ℕ) → m < j → (get_or ks m (0, 0)).0 ≡ k → ⊥
 
-lookup-if : (k : ℕ) (e : ℕ × ℕ) (ks : List (ℕ × ℕ)) → lookup_kind k (e ∷ ks) ≡ (if eqb e.0 k then some e.1 else lookup_kind k ks)
+lookup-if : (k : ℕ) (e : ℕ × ℕ) (ks : List (ℕ × ℕ)) → lookup_kind k (e ∷ ks) ≡ (when eqb e.0 k then some e.1 else lookup_kind k ks)
 unfolding lookup_kind
 lookup-if k e ks = refl
 
 pub table-gives : (ks : List (ℕ × ℕ)) (k i j : ℕ) → FirstOfKind ks k i j → lookup_kind k ks ≡ some i
 table-gives [] k i j f = absurd (omega (arith, f.inside))
-table-gives (e ∷ ks) k i zero f = lookup-if k e ks ∙ ap (λ b. if b then some e.1 else lookup_kind k ks) (eq-eqb _ _ f.kind) ∙ ap some f.position
+table-gives (e ∷ ks) k i zero f = lookup-if k e ks ∙ ap (λ b. when b then some e.1 else lookup_kind k ks) (eq-eqb _ _ f.kind) ∙ ap some f.position
 table-gives (e ∷ ks) k i (suc j) f =
-    lookup-if k e ks ∙ ap (λ b. if b then some e.1 else lookup_kind k ks) (ne_eqb _ _ (f.before 0 (omega arith)))
+    lookup-if k e ks ∙ ap (λ b. when b then some e.1 else lookup_kind k ks) (ne_eqb _ _ (f.before 0 (omega arith)))
     ∙ table-gives ks k i j (record { inside = omega (arith, f.inside); kind = f.kind; position = f.position; before = λ m l. f.before (suc m) (omega arith) })
 
 pub table-given : (ks : List (ℕ × ℕ)) (k i : ℕ) → lookup_kind k ks ≡ some i → (j : ℕ) × FirstOfKind ks k i j
@@ -110,11 +110,11 @@ table-given (x ∷ ks) k i e = go (eqb x.0 k) refl (λ f. table-given ks k i f)
 
     go : (b : Bool) → eqb x.0 k ≡ b → (lookup_kind k ks ≡ some i → (j : ℕ) × FirstOfKind ks k i j) → (j : ℕ) × FirstOfKind (x ∷ ks) k i j
     go true p rest =
-        let f : some x.1 ≡ some i = sym (lookup-if k x ks ∙ ap (λ b. if b then some x.1 else lookup_kind k ks) p) ∙ e in
+        let f : some x.1 ≡ some i = sym (lookup-if k x ks ∙ ap (λ b. when b then some x.1 else lookup_kind k ks) p) ∙ e in
         let z : x.1 ≡ i = cc in
         (0, record { inside = omega arith; kind = eqb-true _ _ p; position = z; before = λ m l. absurd (omega arith) })
     go false p rest =
-        let r = rest (sym (lookup-if k x ks ∙ ap (λ b. if b then some x.1 else lookup_kind k ks) p) ∙ e) in
+        let r = rest (sym (lookup-if k x ks ∙ ap (λ b. when b then some x.1 else lookup_kind k ks) p) ∙ e) in
         (suc r.0, record { inside = omega (arith, r.1.inside); kind = r.1.kind; position = r.1.position; before = before (differs p) r.0 r.1.before })
 
 -- ---- "... is taken untried unless that variant is an Array or Map."
@@ -190,11 +190,11 @@ module _ (vs : Variants) (ks : List (ℕ × ℕ)) (ns : List ℕ) (v : Value) wh
 
   pub smaller-table : (u n : ℕ) → by-table ≡ some u → by_name ≡ some n → u < n → GoesTo u
   unfolding choose position_of in_union
-  smaller-table u n e f h = chosen (some u) (some n) e f ∙ ap (in_union tried-all) (chosen-both tried-all u n) ∙ ap (λ b. in_union tried-all (if b then some u else some n)) (lt-ltb u n h)
+  smaller-table u n e f h = chosen (some u) (some n) e f ∙ ap (in_union tried-all) (chosen-both tried-all u n) ∙ ap (λ b. in_union tried-all (when b then some u else some n)) (lt-ltb u n h)
 
   pub smaller-named : (u n : ℕ) → by-table ≡ some u → by_name ≡ some n → n ≤ u → GoesTo n
   unfolding choose position_of in_union
-  smaller-named u n e f h = chosen (some u) (some n) e f ∙ ap (in_union tried-all) (chosen-both tried-all u n) ∙ ap (λ b. in_union tried-all (if b then some u else some n)) (le-ltb u n h)
+  smaller-named u n e f h = chosen (some u) (some n) e f ∙ ap (in_union tried-all) (chosen-both tried-all u n) ∙ ap (λ b. in_union tried-all (when b then some u else some n)) (le-ltb u n h)
 
   pub only-table : (u : ℕ) → by-table ≡ some u → by_name ≡ none → GoesTo u
   unfolding choose position_of in_union

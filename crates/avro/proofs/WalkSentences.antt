@@ -8,7 +8,7 @@ use mathlib.Core.Option.{Option, none, some, or_else}
 use mathlib.Core.Bool.{Bool, true, false}
 use native.Mathlib.Omega.{arith}
 use borrow.Author.Tests.{eq-eqb, ne_eqb}
-use Rattle.base.specs.Base.{if◌then◌else◌, Result, ok, stop, after}
+use Rattle.base.specs.Base.{when◌then◌else◌, Result, ok, stop, after}
 use Rattle.text.specs.Text.{Text, same}
 use Rattle.text.proofs.TextLaws.{same_refl, same→≡}
 use Rattle.frame.specs.Kind
@@ -319,7 +319,7 @@ unfoldable pub LastUnder : Text → Value → Entries → Type 0
 LastUnder n v no_entries = ⊥
 LastUnder n v (entry m w es) = LastUnder n v es ⊎ ((m ≡ n) × ((w ≡ v) × Absent n es))
 
-last_under-if : (n m : Text) (v : Value) (es : Entries) → last_under n (entry m v es) ≡ or_else (last_under n es) (if same m n then some v else none)
+last_under-if : (n m : Text) (v : Value) (es : Entries) → last_under n (entry m v es) ≡ or_else (last_under n es) (when same m n then some v else none)
 unfolding last_under
 last_under-if n m v es = refl
 
@@ -336,15 +336,15 @@ equal m n e = ap (λ x. same x n) e ∙ same_refl n
 pub absent_none : (n : Text) (es : Entries) → Absent n es → last_under n es ≡ none
 unfolding Absent last_under or_else
 absent_none n no_entries h = refl
-absent_none n (entry m w es) h = last_under-if n m w es ∙ ap (λ x. or_else x (if same m n then some w else none)) (absent_none n es h.1) ∙ ap (λ b. or_else none (if b then some w else none)) (differ m n h.0)
+absent_none n (entry m w es) h = last_under-if n m w es ∙ ap (λ x. or_else x (when same m n then some w else none)) (absent_none n es h.1) ∙ ap (λ b. or_else none (when b then some w else none)) (differ m n h.0)
 
 pub last-counts : (n : Text) (v : Value) (es : Entries) → LastUnder n v es → last_under n es ≡ some v
 unfolding LastUnder or_else
 last-counts n v no_entries h = absurd h
-last-counts n v (entry m w es) (inl h) = last_under-if n m w es ∙ ap (λ x. or_else x (if same m n then some w else none)) (last-counts n v es h)
+last-counts n v (entry m w es) (inl h) = last_under-if n m w es ∙ ap (λ x. or_else x (when same m n then some w else none)) (last-counts n v es h)
 last-counts n v (entry m w es) (inr h) =
-    last_under-if n m w es ∙ ap (λ x. or_else x (if same m n then some w else none)) (absent_none n es h.1.1)
-    ∙ ap (λ b. or_else none (if b then some w else none)) (equal m n h.0) ∙ ap some h.1.0
+    last_under-if n m w es ∙ ap (λ x. or_else x (when same m n then some w else none)) (absent_none n es h.1.1)
+    ∙ ap (λ b. or_else none (when b then some w else none)) (equal m n h.0) ∙ ap some h.1.0
 
 pub none-absent : (n : Text) (es : Entries) → last_under n es ≡ none → Absent n es
 unfolding Absent or_else
@@ -353,8 +353,8 @@ none-absent n (entry m w es) h = go (none-absent n es) (last_under n es) refl (s
   where
     go : (last_under n es ≡ none → Absent n es) → (x : Option Value) → last_under n es ≡ x → (b : Bool) → same m n ≡ b → (m ≡ n → ⊥) × Absent n es
     go rest none p false q = ((λ e. let f = equal m n e in let z : ◌≡◌ {A = ℕ} 0 1 = cc in omega arith), rest p)
-    go rest none p true q = none-some _ w h (last_under-if n m w es ∙ ap (λ x. or_else x (if same m n then some w else none)) p ∙ ap (λ b. or_else none (if b then some w else none)) q)
-    go rest (some v) p b q = none-some _ v h (last_under-if n m w es ∙ ap (λ x. or_else x (if same m n then some w else none)) p)
+    go rest none p true q = none-some _ w h (last_under-if n m w es ∙ ap (λ x. or_else x (when same m n then some w else none)) p ∙ ap (λ b. or_else none (when b then some w else none)) q)
+    go rest (some v) p b q = none-some _ v h (last_under-if n m w es ∙ ap (λ x. or_else x (when same m n then some w else none)) p)
 
 pub counts-last : (n : Text) (v : Value) (es : Entries) → last_under n es ≡ some v → LastUnder n v es
 unfolding LastUnder or_else last_under
@@ -363,12 +363,12 @@ counts-last n v (entry m w es) h = go (counts-last n v es) (last_under n es) ref
   where
     go : (last_under n es ≡ some v → LastUnder n v es) → (x : Option Value) → last_under n es ≡ x → (b : Bool) → same m n ≡ b → LastUnder n v (entry m w es)
     go rest (some u) p b q =
-        let f : some u ≡ some v = sym (last_under-if n m w es ∙ ap (λ x. or_else x (if same m n then some w else none)) p) ∙ h in
+        let f : some u ≡ some v = sym (last_under-if n m w es ∙ ap (λ x. or_else x (when same m n then some w else none)) p) ∙ h in
         inl (rest (p ∙ f))
     go rest none p true q =
-        let f : some w ≡ some v = sym (last_under-if n m w es ∙ ap (λ x. or_else x (if same m n then some w else none)) p ∙ ap (λ b. or_else none (if b then some w else none)) q) ∙ h in
+        let f : some w ≡ some v = sym (last_under-if n m w es ∙ ap (λ x. or_else x (when same m n then some w else none)) p ∙ ap (λ b. or_else none (when b then some w else none)) q) ∙ h in
         inr (same→≡ m n (rw q tt), (cc, none-absent n es p))
-    go rest none p false q = none-some _ v (last_under-if n m w es ∙ ap (λ x. or_else x (if same m n then some w else none)) p ∙ ap (λ b. or_else none (if b then some w else none)) q) h
+    go rest none p false q = none-some _ v (last_under-if n m w es ∙ ap (λ x. or_else x (when same m n then some w else none)) p ∙ ap (λ b. or_else none (when b then some w else none)) q) h
 
 -- ---- "A missing field takes its default.", 17: "A field is missing without default."
 

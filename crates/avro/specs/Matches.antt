@@ -1,7 +1,7 @@
 -- What it is for a value to match a schema, to have exactly its field names, and to fit it (docs/RULES.md, "What is promised of results").
 use Rattle.std.specs.Prelude.{ℕ, zero, suc, List, [], ◌∷◌, Bool, true, false, ◌&&◌, eqb, length}
 use Rattle.std.proofs.Math.Option.{Option, none, some}
-use Rattle.base.specs.Base.{if◌then◌else◌}
+use Rattle.base.specs.Base.{when◌then◌else◌}
 use Rattle.text.specs.Text.{Text, same}
 use Rattle.frame.specs.Kind
 use Rattle.frame.specs.Tree.{Value, Values, Entries, Schema, Fields, Variants, no_items, item, no_entries, entry, no_fields, field, no_variants, variant, is, index, octets, items, entries, peel}
@@ -51,7 +51,7 @@ module _ (decimal : Option ℕ → List ℕ → Bool) where
     fields_agree no_fields no_entries = true
     fields_agree no_fields (entry m v es) = false
     fields_agree (field n d s fs) no_entries = true
-    fields_agree (field n d s fs) (entry m v es) = if same m n then agrees s v && fields_agree fs es else fields_agree fs (entry m v es)
+    fields_agree (field n d s fs) (entry m v es) = when same m n then agrees s v && fields_agree fs es else fields_agree fs (entry m v es)
 
     pub variant_agrees : Variants → ℕ → Value → Bool
     variant_agrees no_variants i v = false

@@ -1,6 +1,6 @@
 -- Q-10: which values hold a NaN, and of which a Float or a Double would be one.
 use Rattle.std.specs.Prelude.{ℕ, Bool, true, false, ◌&&◌, not, T, eqb}
-use Rattle.base.specs.Base.{if◌then◌else◌}
+use Rattle.base.specs.Base.{when◌then◌else◌}
 use Rattle.text.specs.Text.{ascii}
 use Rattle.scalar.specs.Conversion.{float_is_nan, double_is_nan}
 use Rattle.frame.specs.Kind
@@ -8,7 +8,7 @@ use Rattle.frame.specs.Tree.{Value, Values, Entries, no_items, item, no_entries,
 
 -- a number of kind k that is a NaN
 abbrev pub nan_of : ℕ → ℕ → Bool
-nan_of k n = if eqb k Kind.Float then float_is_nan n else if eqb k Kind.Double then double_is_nan n else false
+nan_of k n = when eqb k Kind.Float then float_is_nan n else when eqb k Kind.Double then double_is_nan n else false
 
 -- no Float and no Double in it is a NaN, at any depth
 unfoldable mutual

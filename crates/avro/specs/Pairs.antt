@@ -1,7 +1,7 @@
 -- Nullable pairs (docs/RULES.md, "What is promised of results"): Null and one other variant, with a kind table that keeps them apart.
 use Rattle.std.specs.Prelude.{ℕ, List, [], ◌∷◌, Bool, true, false, ◌&&◌, not, eqb}
 use Rattle.std.specs.Bool.{beq}
-use Rattle.base.specs.Base.{if◌then◌else◌}
+use Rattle.base.specs.Base.{when◌then◌else◌}
 use Rattle.frame.specs.Kind
 use Rattle.frame.specs.Tree.{Schema, Fields, Variants, no_fields, field, no_variants, variant, schema_kind}
 
@@ -18,7 +18,7 @@ unfoldable pub nullable_pair : Variants → List (ℕ × ℕ) → Bool
 nullable_pair no_variants ks = false
 nullable_pair (variant a no_variants) ks = false
 nullable_pair (variant a (variant b no_variants)) ks =
-    if is_null a then not (is_null b) && only_null_leads_to 0 ks else is_null b && only_null_leads_to 1 ks
+    when is_null a then not (is_null b) && only_null_leads_to 0 ks else is_null b && only_null_leads_to 1 ks
 nullable_pair (variant a (variant b (variant c vs))) ks = false
 
 -- every union of the schema is a nullable pair

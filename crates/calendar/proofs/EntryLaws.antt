@@ -11,7 +11,7 @@ use mir.Syntax.{w64}
 use mir.Val.{SFits, to_z, of_z}
 use mir.ValLaws.{to_z-of_z}
 use borrow.Author.Tests.{lt-leb, le-leb, ltb-true, ltb-false, eq-eqb, ne_eqb}
-use Rattle.base.specs.Base.{if◌then◌else◌, within, Result, ok, stop, after}
+use Rattle.base.specs.Base.{when◌then◌else◌, within, Result, ok, stop, after}
 use Rattle.gregorian.specs.declared.Counted.{Counted}
 use Rattle.gregorian.specs.Rules.{month_length}
 use Rattle.gregorian.specs.Counted.{leap_at, counted, Within, number_of, day_with, all_after}
@@ -101,7 +101,7 @@ module _ (c : Civil) where
 
 pub no-date : (c : Civil) → in_calendar c ≡ false → NoDate 27 ≡ dated_of (date_of c)
 unfolding date_of dated_of
-no-date c e = ap (λ (t : Bool). dated_of (if t then ranged (2 ^ 31) (day_number c) else stop 27)) (sym e)
+no-date c e = ap (λ (t : Bool). dated_of (when t then ranged (2 ^ 31) (day_number c) else stop 27)) (sym e)
 
 pub in-calendar : (c : Counted) → Within c → in_calendar (shown c) ≡ true
 unfolding in_calendar
@@ -125,7 +125,7 @@ date-counted c y n f ey w en =
     let s : shown d ≡ c = ap (λ (x : ℕ). shown (counted x c.month c.day)) ey ∙ shown-is c f in
     ap (λ (x : ℕ). ranged (2 ^ 31) (sub_ℕ x epoch)) en
     ∙ ap (ranged (2 ^ 31)) (sym (day-shown d))
-    ∙ ap (λ (t : Bool). if t then ranged (2 ^ 31) (day_number (shown d)) else stop 27) (sym (in-calendar d w))
+    ∙ ap (λ (t : Bool). when t then ranged (2 ^ 31) (day_number (shown d)) else stop 27) (sym (in-calendar d w))
     ∙ ap date_of s
 
 -- ---- a Duration added
@@ -176,7 +176,7 @@ sum-at f k (stop n) h = refl
 -- ---- windows
 module _ (o c m : Scalar) where
   kinds : (a b e : Bool) → is_instant (kind_of o) ≡ a → eqb (kind_of c) (kind_of o) ≡ b → eqb (kind_of m) (kind_of o) ≡ e
-      → window_holds o c m ≡ (if a && (b && e) then ok (le_z (number_in o) (number_in m) && lt_z (number_in m) (number_in c)) else stop 6)
+      → window_holds o c m ≡ (when a && (b && e) then ok (le_z (number_in o) (number_in m) && lt_z (number_in m) (number_in c)) else stop 6)
   unfolding window_holds
   kinds a b e p q r = cc
 
@@ -184,13 +184,13 @@ module _ (o c m : Scalar) where
   other-kind h = kinds false (eqb (kind_of c) (kind_of o)) (eqb (kind_of m) (kind_of o)) h refl refl
 
   pub mixed-close : (kind_of c ≡ kind_of o → ⊥) → window_holds o c m ≡ stop 6
-  mixed-close h = kinds (is_instant (kind_of o)) false (eqb (kind_of m) (kind_of o)) refl (ne_eqb (kind_of c) (kind_of o) h) refl ∙ ap (λ (t : Bool). if t then ok (le_z (number_in o) (number_in m) && lt_z (number_in m) (number_in c)) else stop 6) (and-false (is_instant (kind_of o)))
+  mixed-close h = kinds (is_instant (kind_of o)) false (eqb (kind_of m) (kind_of o)) refl (ne_eqb (kind_of c) (kind_of o) h) refl ∙ ap (λ (t : Bool). when t then ok (le_z (number_in o) (number_in m) && lt_z (number_in m) (number_in c)) else stop 6) (and-false (is_instant (kind_of o)))
 
   pub mixed-instant : (kind_of m ≡ kind_of o → ⊥) → window_holds o c m ≡ stop 6
   mixed-instant h =
       kinds (is_instant (kind_of o)) (eqb (kind_of c) (kind_of o)) false refl refl (ne_eqb (kind_of m) (kind_of o) h)
-      ∙ ap (λ (t : Bool). if is_instant (kind_of o) && t then ok (le_z (number_in o) (number_in m) && lt_z (number_in m) (number_in c)) else stop 6) (and-false (eqb (kind_of c) (kind_of o)))
-      ∙ ap (λ (t : Bool). if t then ok (le_z (number_in o) (number_in m) && lt_z (number_in m) (number_in c)) else stop 6) (and-false (is_instant (kind_of o)))
+      ∙ ap (λ (t : Bool). when is_instant (kind_of o) && t then ok (le_z (number_in o) (number_in m) && lt_z (number_in m) (number_in c)) else stop 6) (and-false (eqb (kind_of c) (kind_of o)))
+      ∙ ap (λ (t : Bool). when t then ok (le_z (number_in o) (number_in m) && lt_z (number_in m) (number_in c)) else stop 6) (and-false (is_instant (kind_of o)))
 
   pub same-kinds : is_instant (kind_of o) ≡ true → kind_of c ≡ kind_of o → kind_of m ≡ kind_of o → window_holds o c m ≡ ok (le_z (number_in o) (number_in m) && lt_z (number_in m) (number_in c))
   same-kinds p q r = kinds true true true p (eq-eqb (kind_of c) (kind_of o) q) (eq-eqb (kind_of m) (kind_of o) r)

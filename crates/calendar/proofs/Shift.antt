@@ -7,7 +7,7 @@ use native.Mathlib.Omega.{arith}
 use lib.Dec.{eqb, ltb}
 use lib.IntN.{ℤ, pos, negsuc, suc_ℤ, pred_ℤ, sub_ℕ, ◌+ℤ◌, ◌-ℤ◌}
 use borrow.Author.Tests.{eqb-true, eqb-false, eq-eqb, ne_eqb, lt-ltb, ltb-false}
-use Rattle.base.specs.Base.{if◌then◌else◌}
+use Rattle.base.specs.Base.{when◌then◌else◌}
 use Rattle.gregorian.specs.declared.Counted.{Counted}
 use Rattle.gregorian.specs.Rules.{year_length, month_length, month_start}
 use Rattle.calendar.specs.Calendar.{leap, year_start, civil, day_number, next, previous, civil_of, add_months}
@@ -122,14 +122,14 @@ day-shown c =
 pub next-shown : (c : Counted) → next (shown c) ≡ shown (following c)
 unfolding next following
 next-shown c =
-    ap (λ (b : Bool). if ltb c.day (month_length b c.month) then civil z c.month (c.day + 1) else if ltb c.month 12 then civil z (c.month + 1) 1 else civil (suc_ℤ z) 1 1) (leap-shown c.year)
+    ap (λ (b : Bool). when ltb c.day (month_length b c.month) then civil z c.month (c.day + 1) else when ltb c.month 12 then civil z (c.month + 1) 1 else civil (suc_ℤ z) 1 1) (leap-shown c.year)
     ∙ go (ltb c.day (month_length (leap_at c.year) c.month)) (ltb c.month 12)
   where
     z : ℤ
     z = sub_ℕ c.year year_zero
 
-    go : (a b : Bool) → (if a then civil z c.month (c.day + 1) else if b then civil z (c.month + 1) 1 else civil (suc_ℤ z) 1 1)
-        ≡ shown (if a then counted c.year c.month (c.day + 1) else if b then counted c.year (c.month + 1) 1 else counted (c.year + 1) 1 1)
+    go : (a b : Bool) → (when a then civil z c.month (c.day + 1) else when b then civil z (c.month + 1) 1 else civil (suc_ℤ z) 1 1)
+        ≡ shown (when a then counted c.year c.month (c.day + 1) else when b then counted c.year (c.month + 1) 1 else counted (c.year + 1) 1 1)
     go true b = refl
     go false true = refl
     go false false = ap (λ (y : ℤ). civil y 1 1) (sub-suc c.year year_zero)
@@ -150,15 +150,15 @@ previous-shown c w = go (ltb c.day (month_length (leap_at c.year) c.month)) (ltb
     len = month_length (leap_at c.year) c.month
 
     go : (a b : Bool) → ltb c.day len ≡ a → ltb c.month 12 ≡ b
-        → previous (shown (if a then counted c.year c.month (c.day + 1) else if b then counted c.year (c.month + 1) 1 else counted (c.year + 1) 1 1)) ≡ shown c
+        → previous (shown (when a then counted c.year c.month (c.day + 1) else when b then counted c.year (c.month + 1) 1 else counted (c.year + 1) 1 1)) ≡ shown c
     go true b p q =
         let e : c.day + 1 - 1 ≡ c.day = omega arith in
-        ap (λ (t : Bool). if t then civil z c.month (c.day + 1 - 1) else if ltb 1 c.month then civil z (c.month - 1) (month_length (leap z) (c.month - 1)) else civil (pred_ℤ z) 12 31) (lt-ltb 1 (c.day + 1) (omega (arith, w.day-≥)))
+        ap (λ (t : Bool). when t then civil z c.month (c.day + 1 - 1) else when ltb 1 c.month then civil z (c.month - 1) (month_length (leap z) (c.month - 1)) else civil (pred_ℤ z) 12 31) (lt-ltb 1 (c.day + 1) (omega (arith, w.day-≥)))
         ∙ ap (civil z c.month) e
     go false true p q =
         let e : c.month + 1 - 1 ≡ c.month = omega arith in
         let d : len ≡ c.day = omega (arith, ltb-false c.day len p, w.day-≤) in
-        ap (λ (t : Bool). if t then civil z (c.month + 1 - 1) (month_length (leap z) (c.month + 1 - 1)) else civil (pred_ℤ z) 12 31) (lt-ltb 1 (c.month + 1) (omega (arith, w.month-≥)))
+        ap (λ (t : Bool). when t then civil z (c.month + 1 - 1) (month_length (leap z) (c.month + 1 - 1)) else civil (pred_ℤ z) 12 31) (lt-ltb 1 (c.month + 1) (omega (arith, w.month-≥)))
         ∙ ap (λ (m : ℕ). civil z m (month_length (leap z) m)) e
         ∙ ap (λ (b : Bool). civil z c.month (month_length b c.month)) (leap-shown c.year)
         ∙ ap (civil z c.month) d

@@ -10,7 +10,7 @@ use lib.Dec.{T, leb, leb→le}
 use lib.IntN.{ℤ, pos, sub_ℕ, suc_ℤ, ◌+ℤ◌, ◌*ℤ◌}
 use lib.Signed.{mag, le_z, lt_z, ◌≤ℤ◌, ◌<ℤ◌, le_z_yes, lt_z_yes, <ℤ-≤ℤ_trans, clash_ℤ}
 use lib.Ieee.Fits.{and_l, and_r}
-use Rattle.base.specs.Base.{if◌then◌else◌, within, ok, stop}
+use Rattle.base.specs.Base.{when◌then◌else◌, within, ok, stop}
 use Rattle.gregorian.specs.declared.Counted.{Counted}
 use Rattle.gregorian.specs.Rules.{month_length}
 use Rattle.gregorian.specs.Counted.{leap_at, counted, Within, number_of, following, day_with, months_on, months_after, all_after}
@@ -83,7 +83,7 @@ civil_of-in_calendar z f =
 pub date_of-civil_of : (z : ℤ) → mag z < 2 ^ 31 → date_of (civil_of z) ≡ ok z
 unfolding date_of
 date_of-civil_of z f =
-    ap (λ (t : Bool). if t then ranged (2 ^ 31) (day_number (civil_of z)) else stop 27) (civil_of-in_calendar z (omega arith))
+    ap (λ (t : Bool). when t then ranged (2 ^ 31) (day_number (civil_of z)) else stop 27) (civil_of-in_calendar z (omega arith))
     ∙ ap (ranged (2 ^ 31)) (day_number-civil_of z (omega arith))
     ∙ ranged-in (2 ^ 31) z (in-range z f)
   where
@@ -95,7 +95,7 @@ dated : (c : Civil) (z : ℤ) → date_of c ≡ ok z → T (in_calendar c) × (d
 unfolding date_of ranged
 dated c z e = go (in_calendar c) (in_range (2 ^ 31) (day_number c)) refl e
   where
-    go : (a b : Bool) → in_calendar c ≡ a → (if a then (if b then ok (day_number c) else stop 27) else stop 27) ≡ ok z → T (in_calendar c) × (day_number c ≡ z)
+    go : (a b : Bool) → in_calendar c ≡ a → (when a then (when b then ok (day_number c) else stop 27) else stop 27) ≡ ok z → T (in_calendar c) × (day_number c ≡ z)
     go true true p h = (subst T (sym p) tt, cc)
     go true false p h = let x : ◌≡◌ {A = ℕ} 0 1 = cc in absurd (omega arith)
     go false b p h = let x : ◌≡◌ {A = ℕ} 0 1 = cc in absurd (omega arith)

@@ -1,7 +1,7 @@
 -- The proleptic Gregorian calendar, with a year 0. A year is any whole number, and so is the number of a day: day 0 is 1 January 1970.
 use Rattle.std.specs.Prelude.{ℕ, zero, suc, ◌+◌, ◌-◌, ◌/◌, ◌%◌, min, Bool, not, ◌&&◌, ◌||◌, eqb, ltb, ℤ, pos, negsuc, ◌+ℤ◌, ◌-ℤ◌, nat_abs}
 use Rattle.std.proofs.Math.IntN.{suc_ℤ, pred_ℤ}
-use Rattle.base.specs.Base.{if◌then◌else◌, within}
+use Rattle.base.specs.Base.{when◌then◌else◌, within}
 use Rattle.gregorian.specs.Rules.{year_length, month_length, month_start}
 use Rattle.calendar.specs.declared.Civil.{Civil}
 
@@ -33,14 +33,14 @@ day_number c = year_start c.year +ℤ pos (month_start (leap c.year) (c.month - 
 -- the day after a day, and the day before it
 unfoldable pub next : Civil → Civil
 next c =
-    if ltb c.day (month_length (leap c.year) c.month) then civil c.year c.month (c.day + 1) else
-    if ltb c.month 12 then civil c.year (c.month + 1) 1 else
+    when ltb c.day (month_length (leap c.year) c.month) then civil c.year c.month (c.day + 1) else
+    when ltb c.month 12 then civil c.year (c.month + 1) 1 else
     civil (suc_ℤ c.year) 1 1
 
 unfoldable pub previous : Civil → Civil
 previous c =
-    if ltb 1 c.day then civil c.year c.month (c.day - 1) else
-    if ltb 1 c.month then civil c.year (c.month - 1) (month_length (leap c.year) (c.month - 1)) else
+    when ltb 1 c.day then civil c.year c.month (c.day - 1) else
+    when ltb 1 c.month then civil c.year (c.month - 1) (month_length (leap c.year) (c.month - 1)) else
     civil (pred_ℤ c.year) 12 31
 
 -- the day with a number: so many days after 1 January 1970, or before it

@@ -1,7 +1,7 @@
 -- A Duration added to a Date or a timestamp, and windows of them (docs/RULES.md, "Dates and instants"). A Date counts days, and a timestamp units of which there are u to a day and p to a millisecond, from the start of 1 January 1970.
 use Rattle.std.specs.Prelude.{ℕ, suc, ◌-◌, ◌*◌, ◌/◌, ◌%◌, ◌^◌, Bool, ◌&&◌, ◌||◌, eqb, ltb, ℤ, pos, negsuc, ◌+ℤ◌, ◌*ℤ◌}
 use Rattle.std.specs.Int.Signed.{le_z, lt_z}
-use Rattle.base.specs.Base.{if◌then◌else◌, within, Result, ok, stop, ◌>>=◌}
+use Rattle.base.specs.Base.{when◌then◌else◌, within, Result, ok, stop, ◌>>=◌}
 use Rattle.duration.specs.declared.Duration.{Duration}
 use Rattle.scalar.specs.Scalars.{kind_of}
 use Rattle.scalar.specs.declared.Scalar.{Scalar}
@@ -15,11 +15,11 @@ in_range h (pos n) = ltb n h
 in_range h (negsuc n) = ltb n h
 
 unfoldable pub ranged : ℕ → ℤ → Result ℤ
-ranged h z = if in_range h z then ok z else stop 27
+ranged h z = when in_range h z then ok z else stop 27
 
 -- ---- the Date of a day: 27 where the calendar has no such day, or a Date can't count it
 unfoldable pub date_of : Civil → Result ℤ
-date_of c = if in_calendar c then ranged (2 ^ 31) (day_number c) else stop 27
+date_of c = when in_calendar c then ranged (2 ^ 31) (day_number c) else stop 27
 
 -- ---- an instant's day, the quotient rounded down, and its part of the day
 unfoldable pub floor : ℤ → ℕ → ℤ
@@ -51,7 +51,7 @@ stamp_sum p z d = added (86400000 * p) p (2 ^ 63) z d.months.0 d.days.0 d.millis
 
 -- what an instant becomes: 26 for milliseconds added to a Date, 6 for any other kind
 abbrev pub sum : Scalar → Duration → Result Scalar
-sum (Date z) d = if eqb d.millis.0 0 then (date_sum z d >>= λ r. ok (Date r)) else stop 26
+sum (Date z) d = when eqb d.millis.0 0 then (date_sum z d >>= λ r. ok (Date r)) else stop 26
 sum (TimestampMillis z) d = stamp_sum 1 z d >>= λ r. ok (TimestampMillis r)
 sum (TimestampMicros z) d = stamp_sum 1000 z d >>= λ r. ok (TimestampMicros r)
 sum (TimestampNanos z) d = stamp_sum 1000000 z d >>= λ r. ok (TimestampNanos r)
@@ -94,6 +94,6 @@ number_in (LocalTimestampNanos z) = pos 0
 -- whether the window from the opening instant to before the closing one holds an instant of their kind: 6 for other or mixed kinds
 unfoldable pub window_holds : Scalar → Scalar → Scalar → Result Bool
 window_holds o c m =
-    if is_instant (kind_of o) && (eqb (kind_of c) (kind_of o) && eqb (kind_of m) (kind_of o))
+    when is_instant (kind_of o) && (eqb (kind_of c) (kind_of o) && eqb (kind_of m) (kind_of o))
     then ok (le_z (number_in o) (number_in m) && lt_z (number_in m) (number_in c))
     else stop 6

@@ -11,7 +11,7 @@ use lib.Dec.{T, leb, eqb, ltb}
 use lib.IntN.{ℤ}
 use lib.ListN.{length, get_or, drop}
 use lib.Seq.{drop-length}
-use Rattle.base.specs.Base.{if◌then◌else◌, ok, stop}
+use Rattle.base.specs.Base.{when◌then◌else◌, ok, stop}
 use Rattle.number.specs.Number.{all_bytes, number_at, bytes_of, written}
 use Rattle.number.proofs.Laws.{number_at-<, length-bytes_of, bytes_of_mod}
 use Rattle.text.specs.Read.{Read}
@@ -89,11 +89,11 @@ module _ (s : Scalar) (k n : ℕ) (e : k ≡ Scalars.kind_of s) (f : n ≡ conte
   pub short-node : is_short k ≡ true → (o : List ℕ) (r : ℕ) → Built (k ∷ bytes_of 4 (n % 2 ^ 32)) o r → Built (encode_value (value_of s)) o r
   short-node h o r b =
       subst (λ (x : List ℕ). Built x o r)
-      (ap (λ (x : List ℕ). k ∷ x) (bytes_of_mod 4 4 n (omega arith)) ∙ ap (λ (t : Bool). k ∷ bytes_of (if t then 4 else 8) n) (sym h) ∙ sym node-is) b
+      (ap (λ (x : List ℕ). k ∷ x) (bytes_of_mod 4 4 n (omega arith)) ∙ ap (λ (t : Bool). k ∷ bytes_of (when t then 4 else 8) n) (sym h) ∙ sym node-is) b
 
   pub wide-node-8 : is_short k ≡ false → (o : List ℕ) (r : ℕ) → Built (k ∷ bytes_of 8 n) o r → Built (encode_value (value_of s)) o r
   wide-node-8 h o r b =
-      subst (λ (x : List ℕ). Built x o r) (ap (λ (t : Bool). k ∷ bytes_of (if t then 4 else 8) n) (sym h) ∙ sym node-is) b
+      subst (λ (x : List ℕ). Built x o r) (ap (λ (t : Bool). k ∷ bytes_of (when t then 4 else 8) n) (sym h) ∙ sym node-is) b
 
 -- what a conversion gave, written
 pub cast-to : (c : Cast) (s : Scalar) (o : List ℕ) (n : ℕ) → c ≡ To s → Built (encode_value (value_of s)) o n → Wrote (encoded (cast_outcome c)) o (Accepted n)
@@ -120,15 +120,15 @@ module _ (d : ℕ) (s : List ℕ) (p : Reads (read_value d s)) (h : is_scalar (g
   pub scalar-node : (1 + width_of kind_at ≤ length s) × (read_value d s ≡ some (Value.Scalar kind_at number_of, drop (1 + width_of kind_at) s))
   scalar-node = wide-node d s p kind_at (width_of kind_at) (scalar-content kind_at (scalar-kind kind_at h)) refl
 
-  pub node-width : (t : Bool) → is_short kind_at ≡ t → 1 + (if t then 4 else 8) ≤ length s
-  node-width t e = subst (λ (x : Bool). 1 + (if x then 4 else 8) ≤ length s) e scalar-node.0
+  pub node-width : (t : Bool) → is_short kind_at ≡ t → 1 + (when t then 4 else 8) ≤ length s
+  node-width t e = subst (λ (x : Bool). 1 + (when x then 4 else 8) ≤ length s) e scalar-node.0
 
   -- the scalar of the value that was read
-  pub scalar_read : (t : Bool) → is_short kind_at ≡ t → (n : ℕ) → n ≡ number_at s 1 (if t then 4 else 8)
+  pub scalar_read : (t : Bool) → is_short kind_at ≡ t → (n : ℕ) → n ≡ number_at s 1 (when t then 4 else 8)
       → (w : Value) (u : List ℕ) → read_value d s ≡ some (w, u) → of_content kind_at n ≡ scalar_of w
   unfolding scalar_of kind_of number
   scalar_read t e n f w u r =
-      ap (of_content kind_at) (f ∙ ap (λ (x : Bool). number_at s 1 (if x then 4 else 8)) (sym e))
+      ap (of_content kind_at) (f ∙ ap (λ (x : Bool). number_at s 1 (when x then 4 else 8)) (sym e))
       ∙ ap scalar_of (read-what (sym scalar-node.1 ∙ r))
 
   module _ (b : T (all_bytes s)) (f : Value → Outcome) (g : Scalar → Cast)
@@ -207,15 +207,15 @@ int-stays : (k n : ℕ) → k ≡ 0x02 → resolve_int (Value.Scalar k n) ≡ ok
 unfolding resolve_int kind_of
 int-stays k n e = rw (eq-eqb k 2 e) refl
 
-int-from-long : (k n : ℕ) → k ≡ 0x03 → resolve_int (Value.Scalar k n) ≡ (if in_int n then ok (Value.Scalar Kind.Int (int_of_long n)) else stop 7)
+int-from-long : (k n : ℕ) → k ≡ 0x03 → resolve_int (Value.Scalar k n) ≡ (when in_int n then ok (Value.Scalar Kind.Int (int_of_long n)) else stop 7)
 unfolding resolve_int kind_of number
 int-from-long k n e = rw (ne_eqb k 2 (λ q. omega arith), eq-eqb k 3 e) refl
 
-narrowed-outcome : (n : ℕ) → n < 2 ^ 64 → cast_outcome (int_cast (Long (of_twos 64 n))) ≡ (if in_int n then ok (Value.Scalar Kind.Int (int_of_long n)) else stop 7)
+narrowed-outcome : (n : ℕ) → n < 2 ^ 64 → cast_outcome (int_cast (Long (of_twos 64 n))) ≡ (when in_int n then ok (Value.Scalar Kind.Int (int_of_long n)) else stop 7)
 unfolding cast_outcome value_of
 narrowed-outcome n h = ap cast_outcome (long-as-int n h) ∙ go (in_int n)
   where
-    go : (t : Bool) → cast_outcome (if t then To (Int (of_twos 32 (int_of_long n))) else OutOfRange) ≡ (if t then ok (Value.Scalar Kind.Int (int_of_long n)) else stop 7)
+    go : (t : Bool) → cast_outcome (when t then To (Int (of_twos 32 (int_of_long n))) else OutOfRange) ≡ (when t then ok (Value.Scalar Kind.Int (int_of_long n)) else stop 7)
     go true = ap (λ (x : ℕ). ok (Value.Scalar Kind.Int x)) (twos_back 32 (int_of_long n) (int_of_long-< n))
     go false = refl
 
@@ -255,16 +255,16 @@ long-cast k n (wide l m) h = no-long-cast k n (wide l m) (λ q. omega arith) (λ
 
 -- as a time of kind j
 module _ (j : ℕ) (a : 0x10 ≤ j) (b : j ≤ 0x18) where
-  time-made : (z : ℤ) (m : ℕ) → to_twos (if ltb j 0x12 then 32 else 64) z ≡ m → cast_outcome (To (time_of j z)) ≡ ok (Value.Scalar j m)
+  time-made : (z : ℤ) (m : ℕ) → to_twos (when ltb j 0x12 then 32 else 64) z ≡ m → cast_outcome (To (time_of j z)) ≡ ok (Value.Scalar j m)
   unfolding cast_outcome value_of
   time-made z m e =
       ap (λ (x : ℕ). ok (Value.Scalar x (content_of (time_of j z)))) (time-back j z a b) ∙ ap (λ (x : ℕ). ok (Value.Scalar j x)) (time-content j z ∙ e)
 
-  time-kept : (k n : ℕ) → ScalarKind k → n < 256 ^ width_of k → cast_outcome (keep j (of_content k n)) ≡ (if eqb k j then ok (Value.Scalar j n) else stop 6)
+  time-kept : (k n : ℕ) → ScalarKind k → n < 256 ^ width_of k → cast_outcome (keep j (of_content k n)) ≡ (when eqb k j then ok (Value.Scalar j n) else stop 6)
   unfolding cast_outcome
-  time-kept k n t h = ap (λ (x : ℕ). cast_outcome (if eqb x j then To (of_content k n) else Unsuited)) (kind-back k n t) ∙ go (eqb k j) refl
+  time-kept k n t h = ap (λ (x : ℕ). cast_outcome (when eqb x j then To (of_content k n) else Unsuited)) (kind-back k n t) ∙ go (eqb k j) refl
     where
-      go : (x : Bool) → eqb k j ≡ x → cast_outcome (if x then To (of_content k n) else Unsuited) ≡ (if x then ok (Value.Scalar j n) else stop 6)
+      go : (x : Bool) → eqb k j ≡ x → cast_outcome (when x then To (of_content k n) else Unsuited) ≡ (when x then ok (Value.Scalar j n) else stop 6)
       go true e = ap ok (value_is k n t h) ∙ ap (λ (x : ℕ). ok (Value.Scalar x n)) (eqb-true k j e)
       go false e = refl
 
@@ -275,21 +275,21 @@ module _ (j : ℕ) (a : 0x10 ≤ j) (b : j ≤ 0x18) where
       unfolding resolve_int_time kind_of number
       short-from-int e =
           ap (λ (x : Scalar). cast_outcome (time_cast j x)) (int-read k n e h)
-          ∙ time-made (of_twos 32 n) n (ap (λ (x : Bool). to_twos (if x then 32 else 64) (of_twos 32 n)) (lt-ltb j 0x12 s) ∙ twos_back 32 n (subst (λ (x : ℕ). n < 256 ^ x) (int-4 k e) h))
+          ∙ time-made (of_twos 32 n) n (ap (λ (x : Bool). to_twos (when x then 32 else 64) (of_twos 32 n)) (lt-ltb j 0x12 s) ∙ twos_back 32 n (subst (λ (x : ℕ). n < 256 ^ x) (int-4 k e) h))
           ∙ sym (rw (ne_eqb k j (λ q. omega arith), eq-eqb k 2 e) refl)
 
       short-from-long : k ≡ 0x03 → cast_outcome (time_cast j (of_content k n)) ≡ resolve_int_time j (Value.Scalar k n)
       unfolding cast_outcome kind_of
       short-from-long e =
           ap (λ (x : Scalar). cast_outcome (time_cast j x)) (of-kind-3 k n e)
-          ∙ ap (λ (x : Bool). cast_outcome (if x then Unsuited else To (time_of j (of_twos 64 n)))) (lt-ltb j 0x12 s)
+          ∙ ap (λ (x : Bool). cast_outcome (when x then Unsuited else To (time_of j (of_twos 64 n)))) (lt-ltb j 0x12 s)
           ∙ sym (int-time-refused j k (λ q. omega arith) (λ q. omega arith) (Value.Scalar k n) refl)
 
       short-from-other : (k ≡ 0x02 → ⊥) → (k ≡ 0x03 → ⊥) → cast_outcome (time_cast j (of_content k n)) ≡ resolve_int_time j (Value.Scalar k n)
       unfolding resolve_int_time kind_of number
       short-from-other f g = ap cast_outcome ((neither k n t f g).2 j) ∙ time-kept k n t h ∙ go (eqb k j) ∙ sym (rw (ne_eqb k 2 f) refl)
         where
-          go : (x : Bool) → (if x then ok (Value.Scalar j n) else stop 6) ≡ (if x || false then ok (Value.Scalar j n) else stop 6)
+          go : (x : Bool) → (when x then ok (Value.Scalar j n) else stop 6) ≡ (when x || false then ok (Value.Scalar j n) else stop 6)
           go true = refl
           go false = refl
 
@@ -299,22 +299,22 @@ module _ (j : ℕ) (a : 0x10 ≤ j) (b : j ≤ 0x18) where
       unfolding resolve_long_time kind_of number
       wide-from-int e =
           ap (λ (x : Scalar). cast_outcome (time_cast j x)) (int-read k n e h)
-          ∙ time-made (of_twos 32 n) (long_of_int n) (ap (λ (x : Bool). to_twos (if x then 32 else 64) (of_twos 32 n)) (le-ltb j 0x12 s) ∙ int-long n (subst (λ (x : ℕ). n < 256 ^ x) (int-4 k e) h))
+          ∙ time-made (of_twos 32 n) (long_of_int n) (ap (λ (x : Bool). to_twos (when x then 32 else 64) (of_twos 32 n)) (le-ltb j 0x12 s) ∙ int-long n (subst (λ (x : ℕ). n < 256 ^ x) (int-4 k e) h))
           ∙ sym (rw (ne_eqb k j (λ q. omega arith), ne_eqb k 3 (λ q. omega arith), eq-eqb k 2 e) refl)
 
       wide-from-long : k ≡ 0x03 → cast_outcome (time_cast j (of_content k n)) ≡ resolve_long_time j (Value.Scalar k n)
       unfolding resolve_long_time kind_of number
       wide-from-long e =
           ap (λ (x : Scalar). cast_outcome (time_cast j x)) (of-kind-3 k n e)
-          ∙ ap (λ (x : Bool). cast_outcome (if x then Unsuited else To (time_of j (of_twos 64 n)))) (le-ltb j 0x12 s)
-          ∙ time-made (of_twos 64 n) n (ap (λ (x : Bool). to_twos (if x then 32 else 64) (of_twos 64 n)) (le-ltb j 0x12 s) ∙ twos_back 64 n (subst (λ (x : ℕ). n < 256 ^ x) (long-8 k e) h))
+          ∙ ap (λ (x : Bool). cast_outcome (when x then Unsuited else To (time_of j (of_twos 64 n)))) (le-ltb j 0x12 s)
+          ∙ time-made (of_twos 64 n) n (ap (λ (x : Bool). to_twos (when x then 32 else 64) (of_twos 64 n)) (le-ltb j 0x12 s) ∙ twos_back 64 n (subst (λ (x : ℕ). n < 256 ^ x) (long-8 k e) h))
           ∙ sym (rw (ne_eqb k j (λ q. omega arith), eq-eqb k 3 e) refl)
 
       wide-from-other : (k ≡ 0x02 → ⊥) → (k ≡ 0x03 → ⊥) → cast_outcome (time_cast j (of_content k n)) ≡ resolve_long_time j (Value.Scalar k n)
       unfolding resolve_long_time kind_of number
       wide-from-other f g = ap cast_outcome ((neither k n t f g).2 j) ∙ time-kept k n t h ∙ go (eqb k j) ∙ sym (rw (ne_eqb k 3 g, ne_eqb k 2 f) refl)
         where
-          go : (x : Bool) → (if x then ok (Value.Scalar j n) else stop 6) ≡ (if x || false then ok (Value.Scalar j n) else stop 6)
+          go : (x : Bool) → (when x then ok (Value.Scalar j n) else stop 6) ≡ (when x || false then ok (Value.Scalar j n) else stop 6)
           go true = refl
           go false = refl
 

@@ -8,7 +8,7 @@ use mathlib.Core.Bool.{Bool, true, false}
 use native.Mathlib.Omega.{arith}
 use lib.Dec.{T}
 use lib.ListN.{get_or, drop}
-use Rattle.base.specs.Base.{if◌then◌else◌, ok, stop}
+use Rattle.base.specs.Base.{when◌then◌else◌, ok, stop}
 use Rattle.number.specs.Number.{all_bytes, number_at, bytes_of}
 use Rattle.text.specs.Read.{Read, read_counted}
 use Rattle.text.specs.Measured.{Reads}
@@ -47,12 +47,12 @@ to-double = record { of-int = λ n. refl; of-long = λ n. refl; of-float = λ n.
 
 -- ---- a float of kind j by its bits b, where n says whether they are a NaN's
 
-pub nan-refused : (j b : ℕ) (n : Bool) → n ≡ true → (o : List ℕ) → Wrote (encoded (if n then stop 28 else ok (Value.Scalar j b))) o (Refused 28)
+pub nan-refused : (j b : ℕ) (n : Bool) → n ≡ true → (o : List ℕ) → Wrote (encoded (when n then stop 28 else ok (Value.Scalar j b))) o (Refused 28)
 unfolding encoded
 nan-refused j b n e o = wrote-stop _ o 28 (rw e refl)
 
 pub number-built : (j w b : ℕ) (n : Bool) → kind_content j ≡ wide w → n ≡ false → (o : List ℕ) (m : ℕ) → Built (j ∷ bytes_of w b) o m
-    → Wrote (encoded (if n then stop 28 else ok (Value.Scalar j b))) o (Accepted m)
+    → Wrote (encoded (when n then stop 28 else ok (Value.Scalar j b))) o (Accepted m)
 unfolding encoded
 number-built j w b n c e o m = wrote-ok _ (j ∷ bytes_of w b) o m (rw e (ap ok (encode-wide j w b c)))
 

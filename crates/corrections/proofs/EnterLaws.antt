@@ -7,7 +7,7 @@ use native.Mathlib.Omega.{arith}
 use native.Mathlib.Numerals.{add-one}
 use lib.ListN.{length, get_or, set, take, length-set, length-map, get_or-map}
 use lib.Seq.{length-take-le, take-suc-set, take-set-lt, get_or-take}
-use Rattle.base.specs.Base.{if◌then◌else◌}
+use Rattle.base.specs.Base.{when◌then◌else◌}
 use Rattle.text.specs.Text.{Text}
 use Rattle.current.specs.Current.{Finish, beats, listed, listed_by}
 use Rattle.current.specs.Entering.{entered_by, place_of}
@@ -117,12 +117,12 @@ module _ (input starts stops seqs : List ℕ) where
       pub named-below : get_or out k 0 < i
       named-below = omega (arith, below_at i (take count out) k below (omega (arith, place-below, taken)), get_or-take count out k 0 place-below)
 
-      old : entered_by beats (listing (take count out)) (one i) ≡ (if beats (get_or seqs i 0) (get_or seqs (get_or out k 0) 0) then set (listing (take count out)) k (one i) else listing (take count out))
+      old : entered_by beats (listing (take count out)) (one i) ≡ (when beats (get_or seqs i 0) (get_or seqs (get_or out k 0) 0) then set (listing (take count out)) k (one i) else listing (take count out))
       unfolding row
       old =
           entered-old beats (listing (take count out)) (one i) (one 0) (omega (arith, place_is, place-below, length-chosen (take count out), taken))
-          ∙ ap (λ (m : ℕ). if beats (get_or seqs i 0) (get_or (listing (take count out)) m (one 0)).seq then set (listing (take count out)) m (one i) else listing (take count out)) place_is
-          ∙ ap (λ (f : Finish). if beats (get_or seqs i 0) f.seq then set (listing (take count out)) k (one i) else listing (take count out)) named
+          ∙ ap (λ (m : ℕ). when beats (get_or seqs i 0) (get_or (listing (take count out)) m (one 0)).seq then set (listing (take count out)) m (one i) else listing (take count out)) place_is
+          ∙ ap (λ (f : Finish). when beats (get_or seqs i 0) f.seq then set (listing (take count out)) k (one i) else listing (take count out)) named
 
       pub entered-over : beats (get_or seqs i 0) (get_or seqs (get_or out k 0) 0) ≡ true → Entered count (set out k i)
       entered-over w =
@@ -130,7 +130,7 @@ module _ (input starts stops seqs : List ℕ) where
             omega arith,
             length-set out k i ∙ size,
             subst (Below (i + 1)) (sym q) (below_set (i + 1) (take count out) k i (below_next i (take count out) below) (omega arith)),
-            ap listing q ∙ chosen-set (take count out) k i ∙ sym (old ∙ ap (λ (b : Bool). if b then set (listing (take count out)) k (one i) else listing (take count out)) w),
+            ap listing q ∙ chosen-set (take count out) k i ∙ sym (old ∙ ap (λ (b : Bool). when b then set (listing (take count out)) k (one i) else listing (take count out)) w),
           )
 
       pub entered-kept : beats (get_or seqs i 0) (get_or seqs (get_or out k 0) 0) ≡ false → Entered count out
@@ -138,7 +138,7 @@ module _ (input starts stops seqs : List ℕ) where
         omega arith,
         size,
         below_next i (take count out) below,
-        sym (old ∙ ap (λ (b : Bool). if b then set (listing (take count out)) k (one i) else listing (take count out)) w),
+        sym (old ∙ ap (λ (b : Bool). when b then set (listing (take count out)) k (one i) else listing (take count out)) w),
       )
 
   -- ---- i frames entered

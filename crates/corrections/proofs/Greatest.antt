@@ -8,7 +8,7 @@ use lib.Dec.{T, ltb, leb}
 use lib.IntN.{ℤ}
 use lib.ListN.{length, get_or, take, drop}
 use borrow.Author.Tests.{leb-true, leb-false, lt-ltb, le-ltb}
-use Rattle.base.specs.Base.{if◌then◌else◌}
+use Rattle.base.specs.Base.{when◌then◌else◌}
 use Rattle.number.specs.Number.{all_bytes}
 use Rattle.number.proofs.Laws.{all_bytes-take, all_bytes-drop}
 use Rattle.rounding.specs.Rounding.{of_twos}
@@ -28,7 +28,7 @@ frame-bytes : (input : List ℕ) (from to : ℕ) → T (all_bytes input) → T (
 unfolding frame_at all_bytes
 frame-bytes input from to h = go (ltb to from) (ltb (length input) to)
   where
-    go : (a b : Bool) → T (all_bytes (if a then [] else (if b then [] else take (to - from) (drop from input))))
+    go : (a b : Bool) → T (all_bytes (when a then [] else (when b then [] else take (to - from) (drop from input))))
     go true b = tt
     go false true = tt
     go false false = all_bytes-take (to - from) (drop from input) (all_bytes-drop from input h)

@@ -8,7 +8,7 @@ use native.Mathlib.Omega.{arith}
 use lib.ListN.{length, take, drop}
 use lib.Seq.{length-take-le}
 use borrow.Author.Tests.{lt-ltb, le-ltb}
-use Rattle.base.specs.Base.{if◌then◌else◌, Result, ok, stop}
+use Rattle.base.specs.Base.{when◌then◌else◌, Result, ok, stop}
 use Rattle.buffer.specs.After.{buffer_after, checked_result}
 use Rattle.buffer.specs.declared.Answer.TheVariants.{Accepted, Refused}
 use Rattle.buffer.proofs.AfterLaws.{checked_result-short, checked_result-fits}
@@ -43,11 +43,11 @@ module _ (input ends : List ℕ) (buffer : ℕ) where
 
   pub names-many : 256 < length ends → names_for input ends buffer ≡ stop 23
   unfolding names_for
-  names-many h = ap (λ (t : Bool). if t then stop 23 else read) (lt-ltb 256 (length ends) h)
+  names-many h = ap (λ (t : Bool). when t then stop 23 else read) (lt-ltb 256 (length ends) h)
 
   pub names-few : length ends ≤ 256 → names_for input ends buffer ≡ read
   unfolding names_for
-  names-few h = ap (λ (t : Bool). if t then stop 23 else read) (le-ltb 256 (length ends) h)
+  names-few h = ap (λ (t : Bool). when t then stop 23 else read) (le-ltb 256 (length ends) h)
 
 module _ (input ends b : List ℕ) where
   abbrev answer : Result (List ℕ)

@@ -7,7 +7,7 @@ use native.Mathlib.Omega.{arith}
 use native.Mathlib.Numerals.{add-one}
 use lib.ListN.{length, get_or, drop, drop_of_length-le}
 use lib.Seq.{drop-cons}
-use Rattle.base.specs.Base.{if◌then◌else◌}
+use Rattle.base.specs.Base.{when◌then◌else◌}
 use Rattle.text.specs.Text.{Text, same}
 use Rattle.text.specs.Hash.{hash}
 use Rattle.current.specs.Entering.{place_of}
@@ -50,20 +50,20 @@ module _ (input starts stops ps : List ℕ) (x : Text) where
   passed_none = record { inside = omega arith; rest = omega arith }
 
   module _ (k : ℕ) (w : Passed k) where
-    test : k < length ps → left k ≡ (if same x (sail_at input starts stops (get_or ps k 0)) then 0 else suc (left (k + 1)))
+    test : k < length ps → left k ≡ (when same x (sail_at input starts stops (get_or ps k 0)) then 0 else suc (left (k + 1)))
     unfolding place_of sails_at
     test h =
         ap (λ (l : List ℕ). place_of (sails_at input starts stops l) x) (drop-cons ps k 0 h)
-        ∙ ap (λ (m : ℕ). if same x (sail_at input starts stops (get_or ps k 0)) then 0 else suc (left m)) (sym (add-one k))
+        ∙ ap (λ (m : ℕ). when same x (sail_at input starts stops (get_or ps k 0)) then 0 else suc (left m)) (sym (add-one k))
 
     pub passed_here : k < length ps → same x (sail_at input starts stops (get_or ps k 0)) ≡ true → k ≡ place_of (sails_at input starts stops ps) x
     passed_here h e =
-        let z : left k ≡ 0 = test h ∙ ap (λ (b : Bool). if b then 0 else suc (left (k + 1))) e in
+        let z : left k ≡ 0 = test h ∙ ap (λ (b : Bool). when b then 0 else suc (left (k + 1))) e in
         omega (arith, z, w.rest)
 
     pub passed-next : k < length ps → same x (sail_at input starts stops (get_or ps k 0)) ≡ false → Passed (k + 1)
     passed-next h e =
-        let z : left k ≡ suc (left (k + 1)) = test h ∙ ap (λ (b : Bool). if b then 0 else suc (left (k + 1))) e in
+        let z : left k ≡ suc (left (k + 1)) = test h ∙ ap (λ (b : Bool). when b then 0 else suc (left (k + 1))) e in
         record { inside = omega arith; rest = omega (arith, z, w.rest) }
 
     pub passed-all : length ps ≤ k → k ≡ place_of (sails_at input starts stops ps) x

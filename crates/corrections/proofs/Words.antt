@@ -9,7 +9,7 @@ use native.Mathlib.Omega.{arith}
 use lib.Dec.{ltb}
 use lib.ListN.{length, get_or, length-map}
 use borrow.Author.Tests.{ltb-true, ltb-false}
-use Rattle.base.specs.Base.{if◌then◌else◌, Result, ok, stop}
+use Rattle.base.specs.Base.{when◌then◌else◌, Result, ok, stop}
 use Rattle.text.specs.Text.{Text, same}
 use Rattle.text.specs.Read.{◌>>=◌}
 use Rattle.buffer.specs.After.{checked_result}
@@ -114,7 +114,7 @@ unfolding without
 without-shorter x [] = omega arith
 without-shorter x (f ∷ l) = go (same f.sail x) (without-shorter x l)
   where
-    go : (b : Bool) → length (without x l) ≤ length l → length (if b then without x l else f ∷ without x l) ≤ suc (length l)
+    go : (b : Bool) → length (without x l) ≤ length l → length (when b then without x l else f ∷ without x l) ≤ suc (length l)
     go true h = omega (arith, h)
     go false h = omega (arith, h)
 
@@ -160,7 +160,7 @@ module _ (input ends : List ℕ) (buffer : ℕ) where
       next h none e = let k = first-none 0 vs e in Named.no_finish h k.0 k.1.0 k.1.1
       next h (some fs) e = by_size fs h e
 
-      go : (b : Bool) → ltb 256 (length ends) ≡ b → Named input ends buffer (if b then stop 23 else names_of buffer (finishes 0 vs))
+      go : (b : Bool) → ltb 256 (length ends) ≡ b → Named input ends buffer (when b then stop 23 else names_of buffer (finishes 0 vs))
       go true q = Named.too_many (ltb-true 256 (length ends) q)
       go false q = next (ltb-false 256 (length ends) q) (finishes 0 vs) refl
 
@@ -191,7 +191,7 @@ accepted : (input ends : List ℕ) (buffer : ℕ) (r : List ℕ) → names_for i
 unfolding names_for names_of checked_result
 accepted input ends buffer r e = many (ltb 256 (length ends)) e
   where
-    room : (fs : List Finish) (b : Bool) → finishes 0 (frames input ends) ≡ some fs → (if b then stop 18 else ok (places (listed fs))) ≡ ok r → Accepts input ends r
+    room : (fs : List Finish) (b : Bool) → finishes 0 (frames input ends) ≡ some fs → (when b then stop 18 else ok (places (listed fs))) ≡ ok r → Accepts input ends r
     room fs true q e = let z : ◌≡◌ {A = ℕ} 0 1 = cc in absurd (omega arith)
     room fs false q e = let s : places (listed fs) ≡ r = cc in record { all = fs; read = q; lists = sym s }
 
@@ -199,7 +199,7 @@ accepted input ends buffer r e = many (ltb 256 (length ends)) e
     next none q e = let z : ◌≡◌ {A = ℕ} 0 1 = cc in absurd (omega arith)
     next (some fs) q e = room fs (ltb 65535 (length (places (listed fs))) || ltb buffer (length (places (listed fs)))) q e
 
-    many : (b : Bool) → (if b then stop 23 else names_of buffer (finishes 0 (frames input ends))) ≡ ok r → Accepts input ends r
+    many : (b : Bool) → (when b then stop 23 else names_of buffer (finishes 0 (frames input ends))) ≡ ok r → Accepts input ends r
     many true e = let z : ◌≡◌ {A = ℕ} 0 1 = cc in absurd (omega arith)
     many false e = next (finishes 0 (frames input ends)) refl e
 

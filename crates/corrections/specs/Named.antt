@@ -1,7 +1,7 @@
 -- The answer that names the current finish of each sail: 23, 24 and 18 in checking order, or the places of the frames.
 use Rattle.std.specs.Prelude.{ℕ, suc, List, [], ◌∷◌, map, ltb, length}
 use Rattle.std.proofs.Math.Option.{Option, none, some}
-use Rattle.base.specs.Base.{if◌then◌else◌, Result, ok, stop}
+use Rattle.base.specs.Base.{when◌then◌else◌, Result, ok, stop}
 use Rattle.text.specs.Text.{Text}
 use Rattle.text.specs.Read.{◌>>=◌}
 use Rattle.buffer.specs.After.{checked_result}
@@ -33,7 +33,7 @@ names_of buffer (some fs) = checked_result buffer (places (listed fs))
 
 -- the answer for a list of frames, with the length of the result buffer: from 23 on
 unfoldable pub names_for : List ℕ → List ℕ → ℕ → Result (List ℕ)
-names_for input ends buffer = if ltb 256 (length ends) then stop 23 else names_of buffer (finishes 0 (frames input ends))
+names_for input ends buffer = when ltb 256 (length ends) then stop 23 else names_of buffer (finishes 0 (frames input ends))
 
 -- the number and length of each case
 unfoldable pub answer_of : Result (List ℕ) → Answer

@@ -5,7 +5,7 @@ use mathlib.Core.Logic.{◌⊎◌, inl, inr, ⊎_elim}
 use mathlib.Core.List.{List, [], ◌∷◌}
 use mathlib.Core.Bool.{Bool, true, false}
 use native.Mathlib.Omega.{arith}
-use Rattle.base.specs.Base.{if◌then◌else◌}
+use Rattle.base.specs.Base.{when◌then◌else◌}
 use Rattle.text.specs.Text.{Text, same}
 use Rattle.text.proofs.TextLaws.{same_refl, same→≡}
 use Rattle.current.specs.Current.{Finish, over_by, current_by, without, listed_by}
@@ -21,7 +21,7 @@ over-sail : (wins : ℕ → ℕ → Bool) (c f : Finish) → (over_by wins c f).
 unfolding over_by
 over-sail wins c f = go (same f.sail c.sail) refl (wins f.seq c.seq)
   where
-    go : (b : Bool) → same f.sail c.sail ≡ b → (w : Bool) → (if b then (if w then f else c) else c).sail ≡ c.sail
+    go : (b : Bool) → same f.sail c.sail ≡ b → (w : Bool) → (when b then (when w then f else c) else c).sail ≡ c.sail
     go true e true = same-is f.sail c.sail e
     go true e false = refl
     go false e w = refl
@@ -36,7 +36,7 @@ unfolding without leave
 map-without x [] = refl
 map-without x (f ∷ fs) = go (map-without x fs) (same f.sail x)
   where
-    go : sails_of (without x fs) ≡ leave x (sails_of fs) → (b : Bool) → sails_of (if b then without x fs else f ∷ without x fs) ≡ (if b then leave x (sails_of fs) else f.sail ∷ leave x (sails_of fs))
+    go : sails_of (without x fs) ≡ leave x (sails_of fs) → (b : Bool) → sails_of (when b then without x fs else f ∷ without x fs) ≡ (when b then leave x (sails_of fs) else f.sail ∷ leave x (sails_of fs))
     go ih true = ih
     go ih false = ap (λ (l : List Text). f.sail ∷ l) ih
 
@@ -53,7 +53,7 @@ unfolding leave In
 leave-in x y [] h = absurd h
 leave-in x y (z ∷ l) h = go (leave-in x y l) (same z x) h
   where
-    go : (In y (leave x l) → In y l) → (b : Bool) → In y (if b then leave x l else z ∷ leave x l) → (y ≡ z) ⊎ In y l
+    go : (In y (leave x l) → In y l) → (b : Bool) → In y (when b then leave x l else z ∷ leave x l) → (y ≡ z) ⊎ In y l
     go ih true h = inr (ih h)
     go ih false h = ⊎_elim (λ e. inl e) (λ k. inr (ih k)) h
 
@@ -62,7 +62,7 @@ unfolding leave In
 leave_none x [] h = h
 leave_none x (z ∷ l) h = go (leave_none x l) (same z x) refl h
   where
-    go : (In x (leave x l) → ⊥) → (b : Bool) → same z x ≡ b → In x (if b then leave x l else z ∷ leave x l) → ⊥
+    go : (In x (leave x l) → ⊥) → (b : Bool) → same z x ≡ b → In x (when b then leave x l else z ∷ leave x l) → ⊥
     go ih true e h = ih h
     go ih false e h = ⊎_elim (λ q. same_not z x e (sym q)) (λ k. ih k) h
 
@@ -71,7 +71,7 @@ unfolding leave Distinct
 leave-distinct x [] h = tt
 leave-distinct x (z ∷ l) h = go (leave-distinct x l h.1) (same z x)
   where
-    go : Distinct (leave x l) → (b : Bool) → Distinct (if b then leave x l else z ∷ leave x l)
+    go : Distinct (leave x l) → (b : Bool) → Distinct (when b then leave x l else z ∷ leave x l)
     go ih true = ih
     go ih false = ((λ i. h.0 (leave-in x z l i)), ih)
 
@@ -86,7 +86,7 @@ unfolding leave In
 leave-other x y [] h n = absurd h
 leave-other x y (z ∷ l) h n = go (λ k. leave-other x y l k n) (same z x) refl h
   where
-    go : (In y l → In y (leave x l)) → (b : Bool) → same z x ≡ b → (y ≡ z) ⊎ In y l → In y (if b then leave x l else z ∷ leave x l)
+    go : (In y l → In y (leave x l)) → (b : Bool) → same z x ≡ b → (y ≡ z) ⊎ In y l → In y (when b then leave x l else z ∷ leave x l)
     go ih true e h = ⊎_elim (λ q. absurd (n (q ∙ same-is z x e))) ih h
     go ih false e h = ⊎_elim (λ q. inl q) (λ k. inr (ih k)) h
 

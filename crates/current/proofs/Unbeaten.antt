@@ -4,7 +4,7 @@ use mathlib.Core.Path.{◌≡◌, refl, sym, ap, subst, ◌∙◌}
 use mathlib.Core.Logic.{◌⊎◌, inl, inr, ⊎_elim}
 use mathlib.Core.List.{List, [], ◌∷◌, ◌++◌, append_assoc}
 use mathlib.Core.Bool.{Bool, true, false}
-use Rattle.base.specs.Base.{if◌then◌else◌}
+use Rattle.base.specs.Base.{when◌then◌else◌}
 use Rattle.text.specs.Text.{Text, same}
 use Rattle.current.specs.Current.{Finish, over_by, current_by, without, listed_by}
 use Rattle.current.specs.Claims.{TakesOver, In, Earlier, Later, Unbeaten}
@@ -46,7 +46,7 @@ module _ (wins : ℕ → ℕ → Bool) where
           later = later-append c u.behind (f ∷ []) u.later (h, tt);
         }
 
-        go : (b : Bool) → same f.sail c.sail ≡ b → (w : Bool) → wins f.seq c.seq ≡ w → Unbeaten wins (hist ++ f ∷ []) (if b then (if w then f else c) else c)
+        go : (b : Bool) → same f.sail c.sail ≡ b → (w : Bool) → wins f.seq c.seq ≡ w → Unbeaten wins (hist ++ f ∷ []) (when b then (when w then f else c) else c)
         go true e true q =
             let s = same-is f.sail c.sail e in
             record {
@@ -78,7 +78,7 @@ module _ (wins : ℕ → ℕ → Bool) where
     without_in x c [] h = absurd h
     without_in x c (f ∷ fs) h = go (without_in x c fs) (same f.sail x) refl h
       where
-        go : (In c (without x fs) → In c fs × (c.sail ≡ x → ⊥)) → (b : Bool) → same f.sail x ≡ b → In c (if b then without x fs else f ∷ without x fs) → ((c ≡ f) ⊎ In c fs) × (c.sail ≡ x → ⊥)
+        go : (In c (without x fs) → In c fs × (c.sail ≡ x → ⊥)) → (b : Bool) → same f.sail x ≡ b → In c (when b then without x fs else f ∷ without x fs) → ((c ≡ f) ⊎ In c fs) × (c.sail ≡ x → ⊥)
         go ih true e h = let k = ih h in (inr k.0, k.1)
         go ih false e h = ⊎_elim (λ q. (inl q, (λ s. same_not f.sail x e (sym (ap (λ (g : Finish). g.sail) q) ∙ s)))) (λ i. let k = ih i in (inr k.0, k.1)) h
 

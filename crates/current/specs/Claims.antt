@@ -1,6 +1,6 @@
 -- What is claimed of the current finishes, by any rule by which one takes over from another.
 use Rattle.std.specs.Prelude.{ℕ, ◌≡◌, ◌⊎◌, List, [], ◌∷◌, ◌++◌, map, Bool, true, false, not}
-use Rattle.base.specs.Base.{if◌then◌else◌}
+use Rattle.base.specs.Base.{when◌then◌else◌}
 use Rattle.text.specs.Text.{Text, same}
 use Rattle.current.specs.Current.{Finish}
 
@@ -44,7 +44,7 @@ sails_of fs = map (λ (f : Finish). f.sail) fs
 -- the other texts
 unfoldable pub leave : Text → List Text → List Text
 leave x [] = []
-leave x (y ∷ l) = if same y x then leave x l else y ∷ leave x l
+leave x (y ∷ l) = when same y x then leave x l else y ∷ leave x l
 
 -- each text once, in the order in which texts first appear
 unfoldable pub firsts : List Text → List Text

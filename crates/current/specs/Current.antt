@@ -1,6 +1,6 @@
 -- The current one of the finishes of each sail.
 use Rattle.std.specs.Prelude.{ℕ, List, [], ◌∷◌, Bool, leb}
-use Rattle.base.specs.Base.{if◌then◌else◌}
+use Rattle.base.specs.Base.{when◌then◌else◌}
 use Rattle.text.specs.Text.{Text, same}
 
 -- a finish: its frame's place in the list, its sail, and the rank of its seq. The place is a label: nothing below looks at it
@@ -18,7 +18,7 @@ beats later earlier = leb earlier later
 
 -- the current one once f stands behind c
 unfoldable pub over_by : (ℕ → ℕ → Bool) → Finish → Finish → Finish
-over_by wins c f = if same f.sail c.sail then (if wins f.seq c.seq then f else c) else c
+over_by wins c f = when same f.sail c.sail then (when wins f.seq c.seq then f else c) else c
 
 -- the current one of c's sail, among c and the finishes behind it
 unfoldable pub current_by : (ℕ → ℕ → Bool) → Finish → List Finish → Finish
@@ -28,7 +28,7 @@ current_by wins c (f ∷ fs) = current_by wins (over_by wins c f) fs
 -- the finishes of other sails
 unfoldable pub without : Text → List Finish → List Finish
 without x [] = []
-without x (f ∷ fs) = if same f.sail x then without x fs else f ∷ without x fs
+without x (f ∷ fs) = when same f.sail x then without x fs else f ∷ without x fs
 
 -- the current finish of each sail, in the order in which sails first appear
 unfoldable pub listed_by : (ℕ → ℕ → Bool) → List Finish → List Finish

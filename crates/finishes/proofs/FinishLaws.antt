@@ -10,7 +10,7 @@ use lib.Dec.{T}
 use lib.ListN.{length, get_or, take, drop, length-drop}
 use lib.Seq.{drop-drop, get_or-drop}
 use borrow.Author.Tests.{eq-eqb, ne_eqb}
-use Rattle.base.specs.Base.{if◌then◌else◌}
+use Rattle.base.specs.Base.{when◌then◌else◌}
 use Rattle.number.specs.Number.{all_bytes, number_at}
 use Rattle.number.proofs.Laws.{all_bytes-drop}
 use Rattle.text.specs.Text.{Text, ascii}
@@ -57,11 +57,11 @@ module _ (v : List ℕ) (p : ℕ) (o : Option Value) (l : Located o 15 v (F.At p
   -- not a String, not a Long
   pub string-not : T (all_bytes v) → (get_or v p 0 ≡ 7 → ⊥) → string_of o ≡ none
   unfolding string_of
-  string-not b h = ap string_of found.1.1.0 ∙ ap (λ (t : Bool). if t then some (octets found.1.0) else none) (ne_eqb (kind_of found.1.0) 7 (λ e. h (sym (kind b) ∙ e)))
+  string-not b h = ap string_of found.1.1.0 ∙ ap (λ (t : Bool). when t then some (octets found.1.0) else none) (ne_eqb (kind_of found.1.0) 7 (λ e. h (sym (kind b) ∙ e)))
 
   pub long-not : T (all_bytes v) → (get_or v p 0 ≡ 3 → ⊥) → long_of o ≡ none
   unfolding long_of
-  long-not b h = ap long_of found.1.1.0 ∙ ap (λ (t : Bool). if t then some (rank (number found.1.0)) else none) (ne_eqb (kind_of found.1.0) 3 (λ e. h (sym (kind b) ∙ e)))
+  long-not b h = ap long_of found.1.1.0 ∙ ap (λ (t : Bool). when t then some (rank (number found.1.0)) else none) (ne_eqb (kind_of found.1.0) 3 (λ e. h (sym (kind b) ∙ e)))
 
   behind : drop 1 (drop p v) ≡ drop (p + 1) v
   behind = drop-drop 1 p v
@@ -197,11 +197,11 @@ module _ (v : List ℕ) (e : Passes v ≡ true) where
 
   pub no_record : T (all_bytes v) → (get_or v 0 0 ≡ 11 → ⊥) → finish_of v ≡ none
   unfolding said
-  no_record b h = says ∙ ap (λ (t : Bool). if t then fields (entries tree) else none) (ne_eqb (kind_of tree) 11 (λ e. h (sym (root b) ∙ e)))
+  no_record b h = says ∙ ap (λ (t : Bool). when t then fields (entries tree) else none) (ne_eqb (kind_of tree) 11 (λ e. h (sym (root b) ∙ e)))
 
   pub a-record : T (all_bytes v) → get_or v 0 0 ≡ 11 → fields_read (read_value 16 v) ≡ finish_of v
   unfolding said fields_read
-  a-record b h = ap fields_read whole.1 ∙ sym (says ∙ ap (λ (t : Bool). if t then fields (entries tree) else none) (eq-eqb (kind_of tree) 11 (root b ∙ h)))
+  a-record b h = ap fields_read whole.1 ∙ sym (says ∙ ap (λ (t : Bool). when t then fields (entries tree) else none) (eq-eqb (kind_of tree) 11 (root b ∙ h)))
 
 pub is-keyed : (v : List ℕ) → get_or v 0 0 ≡ 11 → Keyed v
 unfolding Keyed

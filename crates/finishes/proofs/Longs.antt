@@ -7,7 +7,7 @@ use mathlib.Core.Bool.{Bool, true, false, ◌&&◌}
 use native.Mathlib.Omega.{arith}
 use lib.Dec.{T, ltb, ltb→lt}
 use lib.Ieee.Fits.{and_l, and_r}
-use Rattle.base.specs.Base.{if◌then◌else◌}
+use Rattle.base.specs.Base.{when◌then◌else◌}
 use Rattle.number.specs.Number.{all_bytes}
 use Rattle.text.specs.Text.{Text, ascii, same}
 use Rattle.frame.specs.Kind
@@ -40,7 +40,7 @@ under-held n (entry m v es) d h w e = go (last_under n es) refl (same m n) (unde
     own : T (held v d)
     own = and_r (text_held m) (held v d) (and_l (text_held m && held v d) (entries_held es d) h)
 
-    go : (o : Option Value) → last_under n es ≡ o → (c : Bool) → ((u : Value) → last_under n es ≡ some u → T (held u d)) → or_else o (if c then some v else none) ≡ some w → T (held w d)
+    go : (o : Option Value) → last_under n es ≡ o → (c : Bool) → ((u : Value) → last_under n es ≡ some u → T (held u d)) → or_else o (when c then some v else none) ≡ some w → T (held w d)
     go none q true ih e = let z : v ≡ w = cc in subst (λ (u : Value). T (held u d)) z own
     go none q false ih e = let z : ◌≡◌ {A = ℕ} 0 1 = cc in absurd (omega arith)
     go (some u) q c ih e = let z : u ≡ w = cc in subst (λ (u : Value). T (held u d)) z (ih u q)

@@ -6,7 +6,7 @@ use native.Mathlib.Omega.{arith}
 use lib.Dec.{ltb}
 use lib.IntN.{ℤ, pos, negsuc}
 use borrow.Author.Tests.{ltb-true, ltb-false, lt-ltb, le-ltb}
-use Rattle.base.specs.Base.{if◌then◌else◌}
+use Rattle.base.specs.Base.{when◌then◌else◌}
 use Rattle.rounding.specs.Rounding.{of_twos}
 use Rattle.finishes.specs.Finish.{rank}
 
@@ -31,7 +31,7 @@ pub rank-order : (a b : ℕ) → a < 2 ^ 64 → b < 2 ^ 64 → ltb (rank a) (ran
 unfolding rank lessℤ
 rank-order a b ha hb = go (ltb a top) refl (ltb b top) refl
   where
-    go : (s : Bool) → ltb a top ≡ s → (t : Bool) → ltb b top ≡ t → ltb (if s then a + top else a - top) (if t then b + top else b - top)
+    go : (s : Bool) → ltb a top ≡ s → (t : Bool) → ltb b top ≡ t → ltb (when s then a + top else a - top) (when t then b + top else b - top)
         ≡ lessℤ (cond s (pos a) (negsuc (0x10000000000000000 - suc a))) (cond t (pos b) (negsuc (0x10000000000000000 - suc b)))
     go true p true q = alike (a + top) (b + top) a b (λ h. omega (arith, h)) (λ h. omega (arith, h))
     go true p false q = le-ltb (a + top) (b - top) (omega (arith, hb))

@@ -7,7 +7,7 @@ use mathlib.Core.Option.{Option, none, some}
 use mathlib.Core.Bool.{Bool, true, false}
 use lib.Dec.{eqb}
 use borrow.Author.Tests.{eqb-true, eqb-false, eq-eqb, ne_eqb}
-use Rattle.base.specs.Base.{if◌then◌else◌, Result, ok, stop, accepted}
+use Rattle.base.specs.Base.{when◌then◌else◌, Result, ok, stop, accepted}
 use Rattle.text.specs.Text.{Text, ascii}
 use Rattle.text.specs.Read.{◌>>=◌}
 use Rattle.frame.specs.Kind
@@ -29,12 +29,12 @@ module _ (v : List ℕ) where
 
   finish-other : (w : Value) → checked_value (decode_value v) ≡ ok w → (kind_of w ≡ Kind.Record → ⊥) → finish_of v ≡ none
   unfolding finish_of said_in said
-  finish-other w e n = ap said_in e ∙ ap (λ (b : Bool). if b then fields (entries w) else none) (ne_eqb (kind_of w) Kind.Record n)
+  finish-other w e n = ap said_in e ∙ ap (λ (b : Bool). when b then fields (entries w) else none) (ne_eqb (kind_of w) Kind.Record n)
 
   module _ (w : Value) (r : IsRecord v w) where
     finish-fields : finish_of v ≡ (string_of (last_under (ascii "sail") (entries w)) >>= (λ x. long_of (last_under (ascii "seq") (entries w)) >>= (λ n. some (x, n))))
     unfolding finish_of said_in said fields
-    finish-fields = ap said_in r.passes ∙ ap (λ (b : Bool). if b then fields (entries w) else none) (eq-eqb (kind_of w) Kind.Record r.kind)
+    finish-fields = ap said_in r.passes ∙ ap (λ (b : Bool). when b then fields (entries w) else none) (eq-eqb (kind_of w) Kind.Record r.kind)
 
     finish-no-sail : string_of (last_under (ascii "sail") (entries w)) ≡ none → finish_of v ≡ none
     unfolding ◌>>=◌
@@ -50,19 +50,19 @@ module _ (v : List ℕ) where
 
 string-wrong : (o : Option Value) (s : Value) → o ≡ some s → (kind_of s ≡ Kind.String → ⊥) → string_of o ≡ none
 unfolding string_of
-string-wrong o s e n = ap string_of e ∙ ap (λ (b : Bool). if b then some (octets s) else none) (ne_eqb (kind_of s) Kind.String n)
+string-wrong o s e n = ap string_of e ∙ ap (λ (b : Bool). when b then some (octets s) else none) (ne_eqb (kind_of s) Kind.String n)
 
 string-right : (o : Option Value) (s : Value) → o ≡ some s → kind_of s ≡ Kind.String → string_of o ≡ some (octets s)
 unfolding string_of
-string-right o s e k = ap string_of e ∙ ap (λ (b : Bool). if b then some (octets s) else none) (eq-eqb (kind_of s) Kind.String k)
+string-right o s e k = ap string_of e ∙ ap (λ (b : Bool). when b then some (octets s) else none) (eq-eqb (kind_of s) Kind.String k)
 
 long-wrong : (o : Option Value) (s : Value) → o ≡ some s → (kind_of s ≡ Kind.Long → ⊥) → long_of o ≡ none
 unfolding long_of
-long-wrong o s e n = ap long_of e ∙ ap (λ (b : Bool). if b then some (rank (number s)) else none) (ne_eqb (kind_of s) Kind.Long n)
+long-wrong o s e n = ap long_of e ∙ ap (λ (b : Bool). when b then some (rank (number s)) else none) (ne_eqb (kind_of s) Kind.Long n)
 
 long-right : (o : Option Value) (s : Value) → o ≡ some s → kind_of s ≡ Kind.Long → long_of o ≡ some (rank (number s))
 unfolding long_of
-long-right o s e k = ap long_of e ∙ ap (λ (b : Bool). if b then some (rank (number s)) else none) (eq-eqb (kind_of s) Kind.Long k)
+long-right o s e k = ap long_of e ∙ ap (λ (b : Bool). when b then some (rank (number s)) else none) (eq-eqb (kind_of s) Kind.Long k)
 
 -- ---- each case decides the definition
 

@@ -7,7 +7,7 @@ use mathlib.Core.Bool.{Bool, true, false}
 use native.Mathlib.Omega.{arith}
 use lib.Dec.{ltb, eqb}
 use lib.ListN.{length}
-use Rattle.base.specs.Base.{if◌then◌else◌, Result, ok, stop, accepted}
+use Rattle.base.specs.Base.{when◌then◌else◌, Result, ok, stop, accepted}
 use Rattle.text.specs.Read.{Read, ◌>>=◌}
 use Rattle.text.specs.Measured.{Reads}
 use Rattle.frame.specs.Tree.{Value}
@@ -23,15 +23,15 @@ pub whole-reads : {A : Type 0} (p : List ℕ → Read A) (s : List ℕ) (a : A) 
 unfolding whole ◌>>=◌
 whole-reads {A} p s a e = long (ltb 65535 (length s)) e
   where
-    ended : (b : Bool) (x : A × List ℕ) → p s ≡ some x → (if b then some x.0 else none) ≡ some a → (r : List ℕ) × (p s ≡ some (a, r))
+    ended : (b : Bool) (x : A × List ℕ) → p s ≡ some x → (when b then some x.0 else none) ≡ some a → (r : List ℕ) × (p s ≡ some (a, r))
     ended true x q e = let f : x.0 ≡ a = cc in (x.1, q ∙ ap (λ (y : A). some (y, x.1)) f)
     ended false x q e = let z : ◌≡◌ {A = ℕ} 0 1 = cc in absurd (omega arith)
 
-    next : (o : Read A) → p s ≡ o → ◌>>=◌ {B = A} o (λ x. if eqb (length x.1) 0 then some x.0 else none) ≡ some a → (r : List ℕ) × (p s ≡ some (a, r))
+    next : (o : Read A) → p s ≡ o → ◌>>=◌ {B = A} o (λ x. when eqb (length x.1) 0 then some x.0 else none) ≡ some a → (r : List ℕ) × (p s ≡ some (a, r))
     next none q e = let z : ◌≡◌ {A = ℕ} 0 1 = cc in absurd (omega arith)
     next (some x) q e = ended (eqb (length x.1) 0) x q e
 
-    long : (b : Bool) → (if b then none else ◌>>=◌ {B = A} (p s) (λ x. if eqb (length x.1) 0 then some x.0 else none)) ≡ some a → (r : List ℕ) × (p s ≡ some (a, r))
+    long : (b : Bool) → (when b then none else ◌>>=◌ {B = A} (p s) (λ x. when eqb (length x.1) 0 then some x.0 else none)) ≡ some a → (r : List ℕ) × (p s ≡ some (a, r))
     long true e = let z : ◌≡◌ {A = ℕ} 0 1 = cc in absurd (omega arith)
     long false e = next (p s) refl e
 
@@ -40,7 +40,7 @@ pub value-decoded : (v : List ℕ) (w : Value) → checked_value (decode_value v
 unfolding checked_value
 value-decoded v w e = go (decode_value v) refl e
   where
-    test : (u : Value) (b : Bool) → decode_value v ≡ some u → (if b then ok u else stop 5) ≡ ok w → decode_value v ≡ some w
+    test : (u : Value) (b : Bool) → decode_value v ≡ some u → (when b then ok u else stop 5) ≡ ok w → decode_value v ≡ some w
     test u true d e = let f : u ≡ w = cc in d ∙ ap (λ (x : Value). some x) f
     test u false d e = let z : ◌≡◌ {A = ℕ} 0 1 = cc in absurd (omega arith)
 
@@ -62,7 +62,7 @@ pub accepted-verdict : (v : List ℕ) → accepted (checked_value (decode_value 
 unfolding value_verdict verdict checked_value accepted
 accepted-verdict v = go (decode_value v)
   where
-    test : (w : Value) (b : Bool) → accepted (if b then ok w else stop 5) ≡ is_sound (if b then Sound else Unsound)
+    test : (w : Value) (b : Bool) → accepted (when b then ok w else stop 5) ≡ is_sound (when b then Sound else Unsound)
     test w true = refl
     test w false = refl
 
@@ -87,7 +87,7 @@ pub stopped : (v : List ℕ) → Passes v ≡ false → checked_value (decode_va
 unfolding checked_value accepted
 stopped v e = go (decode_value v) e
   where
-    test : (w : Value) (b : Bool) → accepted (if b then ok w else stop 5) ≡ false → (if b then ok w else stop 5) ≡ stop 5
+    test : (w : Value) (b : Bool) → accepted (when b then ok w else stop 5) ≡ false → (when b then ok w else stop 5) ≡ stop 5
     test w true e = let z : ◌≡◌ {A = ℕ} 0 1 = cc in absurd (omega arith)
     test w false e = refl
 

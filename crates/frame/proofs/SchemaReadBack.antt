@@ -8,7 +8,7 @@ use lib.Dec.{T, leb, ltb, eqb, leb→le, eqb→eq}
 use lib.ListN.{length}
 use lib.Ieee.Fits.{and_r}
 use native.Mathlib.Omega.{arith}
-use Rattle.base.specs.Base.{if◌then◌else◌}
+use Rattle.base.specs.Base.{when◌then◌else◌}
 use Rattle.base.proofs.Okay.{Found}
 use Rattle.number.specs.Number.{all_bytes, bytes_of}
 use Rattle.text.specs.Text.{Text}
@@ -85,7 +85,7 @@ unfolding encode_schema variants_of write_all
 variants-written [] = refl
 variants-written (v ∷ vs) = ap (λ (r : List ℕ). encode_schema v ++ r) (variants-written vs)
 
-behind-if : {A : Type 0} (u : A → List ℕ) (k : ℕ) (s : List ℕ) (b : Bool) (x y : Read A) → (T b → Behind u k s x) → (T (not b) → Behind u k s y) → Behind u k s (if b then x else y)
+behind-if : {A : Type 0} (u : A → List ℕ) (k : ℕ) (s : List ℕ) (b : Bool) (x y : Read A) → (T b → Behind u k s x) → (T (not b) → Behind u k s y) → Behind u k s (when b then x else y)
 behind-if u k s true x y f g = f tt
 behind-if u k s false x y f g = g tt
 

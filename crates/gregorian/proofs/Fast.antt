@@ -6,7 +6,7 @@ use native.Mathlib.Numerals.{add-one}
 use native.Mathlib.Omega.{arith}
 use lib.Dec.{T, eqb, ltb, leb, leb→le, eqb→eq}
 use borrow.Author.Tests.{eq-eqb, ne_eqb, lt-ltb, le-ltb, ltb-true, ltb-false}
-use Rattle.base.specs.Base.{if◌then◌else◌}
+use Rattle.base.specs.Base.{when◌then◌else◌}
 use Rattle.base.proofs.AllBelow.{all_below, all_below-lookup}
 use Rattle.gregorian.specs.Rules.{year_length, month_length, month_start}
 use Rattle.gregorian.specs.declared.Counted.{Counted}
@@ -33,7 +33,7 @@ month-31 l m a b c d e = rw (ne_eqb m 2 a, ne_eqb m 4 b, ne_eqb m 6 c, ne_eqb m 
 
 -- ---- the start of a month in closed form, tested at each
 unfoldable pub closed_start : Bool → ℕ → ℕ
-closed_start l k = if ltb k 2 then (367 * k + 5) / 12 else (367 * k + 5) / 12 - (if l then 1 else 2)
+closed_start l k = when ltb k 2 then (367 * k + 5) / 12 else (367 * k + 5) / 12 - (when l then 1 else 2)
 
 months-tested : (l : Bool) → T (all_below 13 (λ k. eqb (closed_start l k) (month_start l k)))
 unfolding all_below closed_start month_start month_length
@@ -45,11 +45,11 @@ months l k h = eqb→eq (closed_start l k) (month_start l k) (all_below-lookup 1
 
 pub early-months : (l : Bool) (k : ℕ) → k < 2 → (367 * k + 5) / 12 ≡ month_start l k
 unfolding closed_start
-early-months l k h = ap (λ (t : Bool). if t then (367 * k + 5) / 12 else (367 * k + 5) / 12 - (if l then 1 else 2)) (sym (lt-ltb k 2 h)) ∙ months l k (omega arith)
+early-months l k h = ap (λ (t : Bool). when t then (367 * k + 5) / 12 else (367 * k + 5) / 12 - (when l then 1 else 2)) (sym (lt-ltb k 2 h)) ∙ months l k (omega arith)
 
-pub late-months : (l : Bool) (k : ℕ) → 2 ≤ k → k ≤ 12 → (367 * k + 5) / 12 - (if l then 1 else 2) ≡ month_start l k
+pub late-months : (l : Bool) (k : ℕ) → 2 ≤ k → k ≤ 12 → (367 * k + 5) / 12 - (when l then 1 else 2) ≡ month_start l k
 unfolding closed_start
-late-months l k h g = ap (λ (t : Bool). if t then (367 * k + 5) / 12 else (367 * k + 5) / 12 - (if l then 1 else 2)) (sym (le-ltb k 2 h)) ∙ months l k g
+late-months l k h g = ap (λ (t : Bool). when t then (367 * k + 5) / 12 else (367 * k + 5) / 12 - (when l then 1 else 2)) (sym (le-ltb k 2 h)) ∙ months l k g
 
 -- ---- the month of a day of the year: at least a 32nd of it, and at most one more
 pub month-low : (l : Bool) (k : ℕ) → month_start l k ≤ 31 * k

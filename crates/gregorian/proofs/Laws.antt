@@ -7,7 +7,7 @@ use native.Mathlib.Numerals.{add-one}
 use native.Mathlib.Omega.{arith}
 use lib.Dec.{eqb, ltb}
 use borrow.Author.Tests.{eqb-true, eqb-false, ltb-true, ltb-false, lt-ltb, le-ltb}
-use Rattle.base.specs.Base.{if◌then◌else◌}
+use Rattle.base.specs.Base.{when◌then◌else◌}
 use Rattle.gregorian.specs.declared.Counted.{Counted}
 use Rattle.gregorian.specs.Rules.{year_length, month_length, month_start}
 use Rattle.gregorian.specs.Counted.{leap_at, years_to, counted, Within, number_of, following, day_with}
@@ -80,7 +80,7 @@ pub month_length-≥ : (l : Bool) (m : ℕ) → 28 ≤ month_length l m
 unfolding month_length
 month_length-≥ l m = go l (eqb m 2) (eqb m 4 || eqb m 6 || eqb m 9 || eqb m 11)
   where
-    go : (l a b : Bool) → 28 ≤ (if a then (if l then 29 else 28) else if b then 30 else 31)
+    go : (l a b : Bool) → 28 ≤ (when a then (when l then 29 else 28) else when b then 30 else 31)
     go true true b = omega arith
     go false true b = omega arith
     go l false true = omega arith
@@ -90,7 +90,7 @@ pub month_length-≤ : (l : Bool) (m : ℕ) → month_length l m ≤ 31
 unfolding month_length
 month_length-≤ l m = go l (eqb m 2) (eqb m 4 || eqb m 6 || eqb m 9 || eqb m 11)
   where
-    go : (l a b : Bool) → (if a then (if l then 29 else 28) else if b then 30 else 31) ≤ 31
+    go : (l a b : Bool) → (when a then (when l then 29 else 28) else when b then 30 else 31) ≤ 31
     go true true b = omega arith
     go false true b = omega arith
     go l false true = omega arith
@@ -156,7 +156,7 @@ module _ (c : Counted) (w : Within c) where
   follows = go (ltb c.day (month_length (leap_at c.year) c.month)) (ltb c.month 12) refl refl
     where
       go : (a b : Bool) → ltb c.day (month_length (leap_at c.year) c.month) ≡ a → ltb c.month 12 ≡ b
-          → Follows c (if a then counted c.year c.month (c.day + 1) else if b then counted c.year (c.month + 1) 1 else counted (c.year + 1) 1 1)
+          → Follows c (when a then counted c.year c.month (c.day + 1) else when b then counted c.year (c.month + 1) 1 else counted (c.year + 1) 1 1)
       go true b p q = later-day (ltb-true c.day (month_length (leap_at c.year) c.month) p)
       go false true p q = later-month (ltb-false c.day (month_length (leap_at c.year) c.month) p) (ltb-true c.month 12 q)
       go false false p q = later-year (ltb-false c.day (month_length (leap_at c.year) c.month) p) (ltb-false c.month 12 q)

@@ -1,6 +1,6 @@
 -- The calendar with years counted from a year that is a multiple of 400, and days from 1 January of that year, so that both are numbers from 0 on: what the code computes with. The rule of leap years reads as usual.
 use Rattle.std.specs.Prelude.{ℕ, zero, suc, ◌+◌, ◌-◌, ◌*◌, ◌/◌, ◌%◌, ◌≤◌, min, Bool, not, ◌&&◌, ◌||◌, eqb, ltb}
-use Rattle.base.specs.Base.{if◌then◌else◌}
+use Rattle.base.specs.Base.{when◌then◌else◌}
 use Rattle.gregorian.specs.declared.Counted.{Counted}
 use Rattle.gregorian.specs.Rules.{year_length, month_length, month_start}
 
@@ -30,8 +30,8 @@ number_of c = years_to c.year + month_start (leap_at c.year) (c.month - 1) + (c.
 -- the day after a day
 unfoldable pub following : Counted → Counted
 following c =
-    if ltb c.day (month_length (leap_at c.year) c.month) then counted c.year c.month (c.day + 1) else
-    if ltb c.month 12 then counted c.year (c.month + 1) 1 else
+    when ltb c.day (month_length (leap_at c.year) c.month) then counted c.year c.month (c.day + 1) else
+    when ltb c.month 12 then counted c.year (c.month + 1) 1 else
     counted (c.year + 1) 1 1
 
 -- the day with a number

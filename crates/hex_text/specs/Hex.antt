@@ -1,7 +1,7 @@
 -- The digits that program `resolve` writes, and the frame that a line stands for.
 use Rattle.std.specs.Prelude.{ℕ, ◌/◌, ◌%◌, List, [], ◌∷◌, ltb}
 use Rattle.std.proofs.Math.Option.{get_or}
-use Rattle.base.specs.Base.{if◌then◌else◌}
+use Rattle.base.specs.Base.{when◌then◌else◌}
 use Rattle.text.specs.Text.{Text}
 use Rattle.uuid_text.specs.Uuid.{hex_bytes}
 use Rattle.uuid_text.specs.Rfc4122.{small_digit, hex_text}
@@ -16,4 +16,4 @@ hex_of s = hex_text small_digit s
 
 -- a number below 100 in decimal digits
 unfoldable pub decimal : ℕ → Text
-decimal n = if ltb n 10 then small_digit n ∷ [] else small_digit (n / 10) ∷ small_digit (n % 10) ∷ []
+decimal n = when ltb n 10 then small_digit n ∷ [] else small_digit (n / 10) ∷ small_digit (n % 10) ∷ []

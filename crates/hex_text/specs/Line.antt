@@ -1,7 +1,7 @@
 -- What `from_hex` answers for a line, and what it leaves in the buffer.
 use Rattle.std.specs.Prelude.{ℕ, ◌/◌, ◌≤◌, ◌≡◌, List, ◌++◌, ltb, length, drop}
 use Rattle.std.proofs.Math.Option.{Option, none, some}
-use Rattle.base.specs.Base.{if◌then◌else◌}
+use Rattle.base.specs.Base.{when◌then◌else◌}
 use Rattle.text.specs.Text.{Text}
 use Rattle.uuid_text.specs.Uuid.{hex_bytes}
 use Rattle.hex_text.specs.declared.Frame.{Frame}
@@ -13,7 +13,7 @@ sized (some b) = Of (length b)
 
 -- more pairs of characters than bytes of room are too long, digits or not; otherwise the digits decide
 unfoldable pub line_frame : ℕ → Text → Frame
-line_frame room line = if ltb room (length line / 2) then TooLong else sized (hex_bytes line)
+line_frame room line = when ltb room (length line / 2) then TooLong else sized (hex_bytes line)
 
 -- the buffer keeps its length; where there is a frame, it fits and stands at the front, and behind it what stood there
 unfoldable pub LineHeld : Frame → Text → List ℕ → List ℕ → Type 0

@@ -10,7 +10,7 @@ use lib.Dec.{T, ltb, ltb→lt, nltb→le, lt→ltb}
 use lib.Arith.{le→nltb}
 use lib.ListN.{length}
 use lib.Ieee.Bits.{is_true, is_false}
-use Rattle.base.specs.Base.{if◌then◌else◌, Result, ok, stop, after}
+use Rattle.base.specs.Base.{when◌then◌else◌, Result, ok, stop, after}
 use Rattle.frame.specs.Tree.{Value, Schema}
 use Rattle.frame.specs.ValueFrame.{decode_value, encode_value}
 use Rattle.frame.specs.SchemaFrame.{decode_schema}
@@ -70,7 +70,7 @@ module _ (schema value : List ℕ) (buffer workspace : ℕ) where
   unfolding checked_result
   by_size s p v w r e = go (ltb 65535 (length (encode_value r))) (ltb buffer (length (encode_value r))) refl refl
     where
-      go : (a b : Bool) → ltb 65535 (length (encode_value r)) ≡ a → ltb buffer (length (encode_value r)) ≡ b → Way (if a || b then stop 18 else ok (encode_value r))
+      go : (a b : Bool) → ltb 65535 (length (encode_value r)) ≡ a → ltb buffer (length (encode_value r)) ≡ b → Way (when a || b then stop 18 else ok (encode_value r))
       go true b h k = too_long s p v w r e (inl (ltb→lt 65535 (length (encode_value r)) (rw h tt)))
       go false true h k = too_long s p v w r e (inr (ltb→lt buffer (length (encode_value r)) (rw k tt)))
       go false false h k = accepted s p v w r e (nltb→le 65535 (length (encode_value r)) (rw h tt)) (nltb→le buffer (length (encode_value r)) (rw k tt))
@@ -87,7 +87,7 @@ module _ (schema value : List ℕ) (buffer workspace : ℕ) where
   by_value s p none e = no_value s p e
   by_value s p (some v) e = go (keys_rise v) refl
     where
-      go : (b : Bool) → keys_rise v ≡ b → Way (after (if b then ok v else stop 5) (λ v. after (resolve s v) (λ r. checked_result buffer (encode_value r))))
+      go : (b : Bool) → keys_rise v ≡ b → Way (after (when b then ok v else stop 5) (λ v. after (resolve s v) (λ r. checked_result buffer (encode_value r))))
       go true h = by-outcome s p v (record { frame = e; keys = rw h tt }) (resolve s v) refl
       go false h = fallen-keys s p v e (rw h tt)
 
@@ -108,7 +108,7 @@ module _ (schema value : List ℕ) (buffer workspace : ℕ) where
           omega arith
 
       go : (a b : Bool) → schema_sound s ≡ a → defaults_short s ≡ b
-          → Way (after (if a then (if b then ok s else stop 4) else stop 3) (λ s. record_answer s value buffer))
+          → Way (after (when a then (when b then ok s else stop 4) else stop 3) (λ s. record_answer s value buffer))
       go true true h k = by-record s (record { room = room; frame = e; sound = rw h tt; short = short k })
       go true false h k = long-default s room e (rw h tt) (long-only s (rw h tt) k)
       go false b h k = unsound-schema s room e (rw h tt)
@@ -117,7 +117,7 @@ module _ (schema value : List ℕ) (buffer workspace : ℕ) where
   unfolding answer
   answered = go (ltb workspace workspace_size) refl
     where
-      go : (b : Bool) → ltb workspace workspace_size ≡ b → Way (if b then stop 1 else answer_for schema value buffer)
+      go : (b : Bool) → ltb workspace workspace_size ≡ b → Way (when b then stop 1 else answer_for schema value buffer)
       go true h = short-workspace (ltb→lt workspace workspace_size (rw h tt))
       go false h = by-schema (nltb→le workspace workspace_size (rw h tt)) (decode_schema schema) refl
 
@@ -179,7 +179,7 @@ unfolding after checked_result
 resolution-stops (stop m) buffer n h e = let i : m ≡ n = cc in ap stop i
 resolution-stops (ok r) buffer n h e = go (ltb 65535 (length (encode_value r)) || ltb buffer (length (encode_value r))) e
   where
-    go : (b : Bool) → (if b then stop 18 else ok (encode_value r)) ≡ stop n → ok r ≡ stop n
+    go : (b : Bool) → (when b then stop 18 else ok (encode_value r)) ≡ stop n → ok r ≡ stop n
     go true q = let z : n ≡ 18 = cc in absurd (h z)
     go false q = let z : ◌≡◌ {A = ℕ} 0 1 = cc in absurd (omega arith)
 

@@ -9,7 +9,7 @@ use native.Mathlib.Omega.{arith}
 use borrow.Author.Tests.{ltb-false}
 use lib.Dec.{ltb}
 use lib.ListN.{length}
-use Rattle.base.specs.Base.{if◌then◌else◌, Result, ok, stop, after}
+use Rattle.base.specs.Base.{when◌then◌else◌, Result, ok, stop, after}
 use Rattle.frame.specs.Tree.{Value, Schema}
 use Rattle.frame.specs.ValueFrame.{decode_value, encode_value}
 use Rattle.frame.specs.SchemaFrame.{decode_schema}
@@ -50,7 +50,7 @@ unfolding checked_value
 value-from none = (omega arith, inl (omega arith))
 value-from (some w) = go (keys_rise w)
   where
-    go : (a : Bool) → From 5 (if a then ok w else stop 5)
+    go : (a : Bool) → From 5 (when a then ok w else stop 5)
     go true = tt
     go false = (omega arith, inl (omega arith))
 
@@ -80,7 +80,7 @@ checked_result-small : (len : ℕ) (b : List ℕ) → 1 ≤ length b → SmallFr
 unfolding checked_result
 checked_result-small len b h = go (ltb 65535 (length b)) (ltb len (length b)) refl
   where
-    go : (x y : Bool) → ltb 65535 (length b) ≡ x → SmallFrom 5 (if x || y then stop 18 else ok b)
+    go : (x y : Bool) → ltb 65535 (length b) ≡ x → SmallFrom 5 (when x || y then stop 18 else ok b)
     go true y e = (omega arith, inl (omega arith))
     go false true e = (omega arith, inl (omega arith))
     go false false e = (h, ltb-false 65535 (length b) e)
@@ -98,7 +98,7 @@ unfolding checked_schema
 schema-from none = (omega arith, inl (omega arith))
 schema-from (some t) = go (schema_sound t) (defaults_short t)
   where
-    go : (a b : Bool) → From 2 (if a then (if b then ok t else stop 4) else stop 3)
+    go : (a b : Bool) → From 2 (when a then (when b then ok t else stop 4) else stop 3)
     go true true = tt
     go true false = (omega arith, inl (omega arith))
     go false b = (omega arith, inl (omega arith))
@@ -116,7 +116,7 @@ pub answer-small : (s v : List ℕ) (len work : ℕ) → Small (answer s v len w
 unfolding answer
 answer-small s v len work = go (ltb work workspace_size)
   where
-    go : (b : Bool) → Small (if b then stop 1 else answer_for s v len)
+    go : (b : Bool) → Small (when b then stop 1 else answer_for s v len)
     go true = (omega arith, inl (omega arith))
     go false = small-down 1 2 (answer_for s v len) (omega arith) (answer_for-small s v len)
 

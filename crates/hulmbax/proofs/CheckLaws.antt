@@ -7,7 +7,7 @@ use mathlib.Core.Bool.{Bool, true, false}
 use native.Mathlib.Omega.{arith}
 use lib.Dec.{T}
 use lib.Ieee.Bits.{is_true}
-use Rattle.base.specs.Base.{if◌then◌else◌, Result, ok, stop}
+use Rattle.base.specs.Base.{when◌then◌else◌, Result, ok, stop}
 use Rattle.frame.specs.Tree.{Value, Schema}
 use Rattle.frame.specs.ValueFrame.{decode_value}
 use Rattle.frame.specs.SchemaFrame.{read_schema, decode_schema}
@@ -27,7 +27,7 @@ pub stop-no-schema : (s : List ℕ) → NoFrame ≡ schema_verdict s → 2 ≡ s
 unfolding schema_verdict verdict checked_schema stop_of
 stop-no-schema s e = go (decode_schema s) e
   where
-    test : (b : Bool) → NoFrame ≡ (if b then Sound else Unsound) → ⊥
+    test : (b : Bool) → NoFrame ≡ (when b then Sound else Unsound) → ⊥
     test true e = let z : ◌≡◌ {A = ℕ} 0 1 = cc in omega arith
     test false e = let z : ◌≡◌ {A = ℕ} 0 1 = cc in omega arith
 
@@ -39,7 +39,7 @@ pub stop-unsound : (s : List ℕ) → Unsound ≡ schema_verdict s → 3 ≡ sto
 unfolding schema_verdict verdict checked_schema stop_of
 stop-unsound s e = go (decode_schema s) e
   where
-    test : (t : Schema) (b : Bool) → Unsound ≡ (if b then Sound else Unsound) → 3 ≡ stop_of (if b then (if defaults_short t then ok t else stop 4) else stop 3)
+    test : (t : Schema) (b : Bool) → Unsound ≡ (when b then Sound else Unsound) → 3 ≡ stop_of (when b then (when defaults_short t then ok t else stop 4) else stop 3)
     test t true e = let z : ◌≡◌ {A = ℕ} 0 1 = cc in absurd (omega arith)
     test t false e = refl
 
@@ -57,7 +57,7 @@ pub sound-frame : (s : List ℕ) → Sound ≡ schema_verdict s → SoundFrame s
 unfolding schema_verdict verdict
 sound-frame s e = go (decode_schema s) refl e
   where
-    test : (t : Schema) (b : Bool) → schema_sound t ≡ b → decode_schema s ≡ some t → Sound ≡ (if b then Sound else Unsound) → SoundFrame s
+    test : (t : Schema) (b : Bool) → schema_sound t ≡ b → decode_schema s ≡ some t → Sound ≡ (when b then Sound else Unsound) → SoundFrame s
     test t true q d e = record { tree = t; decoded = d; sound = rw q tt }
     test t false q d e = let z : ◌≡◌ {A = ℕ} 0 1 = cc in absurd (omega arith)
 
@@ -72,14 +72,14 @@ sound-reads s f =
     record { tree = f.tree; rest = r.0; reads = r.1; sound = f.sound }
 
 -- and the number by its defaults
-pub stop-by-defaults : (s : List ℕ) (b : Bool) → SoundFrame s → b ≡ test_read defaults_short (read_schema 16 s) → stop_of (checked_schema (decode_schema s)) ≡ (if b then 0 else 4)
+pub stop-by-defaults : (s : List ℕ) (b : Bool) → SoundFrame s → b ≡ test_read defaults_short (read_schema 16 s) → stop_of (checked_schema (decode_schema s)) ≡ (when b then 0 else 4)
 unfolding decode_schema test_read checked_schema stop_of
 stop-by-defaults s b f e =
     let r : (r : List ℕ) × (read_schema 16 s ≡ some (f.tree, r)) = whole-reads (read_schema 16) s f.tree f.decoded in
     let d : b ≡ defaults_short f.tree = e ∙ ap (test_read defaults_short) r.1 in
     ap (λ (o : Option Schema). stop_of (checked_schema o)) f.decoded ∙ rw (is_true (schema_sound f.tree) f.sound) (go (defaults_short f.tree) d)
   where
-    go : (c : Bool) → b ≡ c → stop_of (if c then ok f.tree else stop 4) ≡ (if b then 0 else 4)
+    go : (c : Bool) → b ≡ c → stop_of (when c then ok f.tree else stop 4) ≡ (when b then 0 else 4)
     go true q = rw q refl
     go false q = rw q refl
 
@@ -88,7 +88,7 @@ pub stop-value : (v : List ℕ) → value_verdict v ≡ Sound → 0 ≡ stop_of 
 unfolding value_verdict verdict checked_value stop_of
 stop-value v e = go (decode_value v) e
   where
-    test : (w : Value) (b : Bool) → (if b then Sound else Unsound) ≡ Sound → 0 ≡ stop_of (if b then ok w else stop 5)
+    test : (w : Value) (b : Bool) → (when b then Sound else Unsound) ≡ Sound → 0 ≡ stop_of (when b then ok w else stop 5)
     test w true e = refl
     test w false e = let z : ◌≡◌ {A = ℕ} 0 1 = cc in absurd (omega arith)
 
@@ -100,7 +100,7 @@ pub stop-unsound-value : (v : List ℕ) → value_verdict v ≡ Unsound → 5 �
 unfolding value_verdict verdict checked_value stop_of
 stop-unsound-value v e = go (decode_value v) e
   where
-    test : (w : Value) (b : Bool) → (if b then Sound else Unsound) ≡ Unsound → 5 ≡ stop_of (if b then ok w else stop 5)
+    test : (w : Value) (b : Bool) → (when b then Sound else Unsound) ≡ Unsound → 5 ≡ stop_of (when b then ok w else stop 5)
     test w true e = let z : ◌≡◌ {A = ℕ} 0 1 = cc in absurd (omega arith)
     test w false e = refl
 
@@ -112,7 +112,7 @@ pub stop-no-value : (v : List ℕ) → value_verdict v ≡ NoFrame → 5 ≡ sto
 unfolding value_verdict verdict checked_value stop_of
 stop-no-value v e = go (decode_value v) e
   where
-    test : (w : Value) (b : Bool) → (if b then Sound else Unsound) ≡ NoFrame → 5 ≡ stop_of (if b then ok w else stop 5)
+    test : (w : Value) (b : Bool) → (when b then Sound else Unsound) ≡ NoFrame → 5 ≡ stop_of (when b then ok w else stop 5)
     test w true e = let z : ◌≡◌ {A = ℕ} 0 1 = cc in absurd (omega arith)
     test w false e = refl
 
@@ -134,7 +134,7 @@ unfolding checked_schema stop_of
 schema-never-0 none e = let z : ◌≡◌ {A = ℕ} 0 1 = cc in absurd (omega arith)
 schema-never-0 (some t) e = go (schema_sound t) (defaults_short t) e
   where
-    go : (a b : Bool) → 0 ≡ stop_of (if a then (if b then ok t else stop 4) else stop 3) → (u : Schema) × ((if a then (if b then ok t else stop 4) else stop 3) ≡ ok u)
+    go : (a b : Bool) → 0 ≡ stop_of (when a then (when b then ok t else stop 4) else stop 3) → (u : Schema) × ((when a then (when b then ok t else stop 4) else stop 3) ≡ ok u)
     go true true e = (t, refl)
     go true false e = absurd (omega arith)
     go false b e = absurd (omega arith)
@@ -144,7 +144,7 @@ unfolding checked_value stop_of
 value-never-0 none e = absurd (omega arith)
 value-never-0 (some w) e = go (keys_rise w) e
   where
-    go : (a : Bool) → 0 ≡ stop_of (if a then ok w else stop 5) → (u : Value) × ((if a then ok w else stop 5) ≡ ok u)
+    go : (a : Bool) → 0 ≡ stop_of (when a then ok w else stop 5) → (u : Value) × ((when a then ok w else stop 5) ≡ ok u)
     go true e = (w, refl)
     go false e = absurd (omega arith)
 

@@ -9,7 +9,7 @@ use lib.ListN.{length, take, drop, replicate}
 use lib.Seq.{length-take-le, take_at, drop_at}
 use borrow.Author.Tests.{eqb-true}
 use lib.Ieee.Bits.{is_true, is_false}
-use Rattle.base.specs.Base.{if◌then◌else◌, Result, ok, stop, after}
+use Rattle.base.specs.Base.{when◌then◌else◌, Result, ok, stop, after}
 use Rattle.frame.specs.SchemaFrame.{decode_schema}
 use Rattle.buffer.specs.After.{buffer_after}
 use Rattle.hulmbax.specs.Answer.{answer, answer_for, record_answer, workspace_after, checked_schema, workspace_size}
@@ -57,7 +57,7 @@ unfolding workspace_after
 zeroed (ok r) w f = refl
 zeroed (stop n) w f = go (eqb n 1) refl
   where
-    go : (b : Bool) → eqb n 1 ≡ b → (if b then w else replicate 65536 0 ++ drop 65536 w) ≡ replicate 65536 0 ++ drop 65536 w
+    go : (b : Bool) → eqb n 1 ≡ b → (when b then w else replicate 65536 0 ++ drop 65536 w) ≡ replicate 65536 0 ++ drop 65536 w
     go true e = absurd (f (ap (λ (j : ℕ). stop j) (eqb-true n 1 e)))
     go false e = refl
 

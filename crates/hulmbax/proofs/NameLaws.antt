@@ -9,7 +9,7 @@ use lib.Dec.{ltb}
 use lib.ListN.{length, take, drop, replicate}
 use lib.Seq.{length-take-le}
 use borrow.Author.Tests.{lt-ltb, le-ltb, ltb-false}
-use Rattle.base.specs.Base.{if◌then◌else◌, Result, ok, stop}
+use Rattle.base.specs.Base.{when◌then◌else◌, Result, ok, stop}
 use Rattle.buffer.specs.After.{buffer_after, checked_result}
 use Rattle.buffer.specs.declared.Answer.{Answer}
 use Rattle.lists.specs.Frames.{frames}
@@ -31,11 +31,11 @@ entry-answer (stop n) = refl
 
 pub names-1 : (input ends : List ℕ) (len work : ℕ) → work < workspace_size → names input ends len work ≡ stop 1
 unfolding names
-names-1 input ends len work h = ap (λ (b : Bool). if b then stop 1 else names_for input ends len) (lt-ltb work workspace_size h)
+names-1 input ends len work h = ap (λ (b : Bool). when b then stop 1 else names_for input ends len) (lt-ltb work workspace_size h)
 
 pub names-is : (input ends : List ℕ) (len work : ℕ) → workspace_size ≤ work → names input ends len work ≡ names_for input ends len
 unfolding names
-names-is input ends len work h = ap (λ (b : Bool). if b then stop 1 else names_for input ends len) (le-ltb work workspace_size h)
+names-is input ends len work h = ap (λ (b : Bool). when b then stop 1 else names_for input ends len) (le-ltb work workspace_size h)
 
 -- ---- lengths and numbers
 
@@ -48,12 +48,12 @@ fit : (input ends : List ℕ) (len : ℕ) → Fit (names_for input ends len)
 unfolding Fit names_for names_of checked_result
 fit input ends len = go (ltb 256 (length ends)) (finishes 0 (frames input ends))
   where
-    room : (r : List ℕ) (b : Bool) → ltb 65535 (length r) ≡ b → (c : Bool) → Fit (if b || c then stop 18 else ok r)
+    room : (r : List ℕ) (b : Bool) → ltb 65535 (length r) ≡ b → (c : Bool) → Fit (when b || c then stop 18 else ok r)
     room r true e c = omega arith
     room r false e true = omega arith
     room r false e false = ltb-false 65535 (length r) e
 
-    go : (b : Bool) (o : Option (List Finish)) → Fit (if b then stop 23 else names_of len o)
+    go : (b : Bool) (o : Option (List Finish)) → Fit (when b then stop 23 else names_of len o)
     go true o = omega arith
     go false none = omega arith
     go false (some fs) = room (places (listed fs)) (ltb 65535 (length (places (listed fs)))) refl (ltb len (length (places (listed fs))))
@@ -66,7 +66,7 @@ names-coded input ends len work = go (ltb work workspace_size)
     own (ok r) h = h
     own (stop n) h = omega (arith, h)
 
-    go : (b : Bool) → Coded (resolved_of (if b then stop 1 else names_for input ends len))
+    go : (b : Bool) → Coded (resolved_of (when b then stop 1 else names_for input ends len))
     go true = omega arith
     go false = own (names_for input ends len) (fit input ends len)
 

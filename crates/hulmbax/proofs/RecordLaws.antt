@@ -8,7 +8,7 @@ use native.Mathlib.Omega.{arith}
 use lib.Dec.{T}
 use lib.ListN.{length, take, drop}
 use lib.Seq.{length-take-le}
-use Rattle.base.specs.Base.{if◌then◌else◌, Result, ok, stop, after}
+use Rattle.base.specs.Base.{when◌then◌else◌, Result, ok, stop, after}
 use Rattle.text.specs.Measured.{Reads}
 use Rattle.frame.specs.Tree.{Value, Schema}
 use Rattle.frame.specs.ValueFrame.{read_value, decode_value, encode_value}
@@ -41,7 +41,7 @@ schema-sound-short : (s : List ℕ) (t : Schema) → checked_schema (decode_sche
 unfolding checked_schema
 schema-sound-short s t e = go (decode_schema s) refl e
   where
-    test : (u : Schema) (a b : Bool) → schema_sound u ≡ a → defaults_short u ≡ b → decode_schema s ≡ some u → (if a then (if b then ok u else stop 4) else stop 3) ≡ ok t → SoundShort s t
+    test : (u : Schema) (a b : Bool) → schema_sound u ≡ a → defaults_short u ≡ b → decode_schema s ≡ some u → (when a then (when b then ok u else stop 4) else stop 3) ≡ ok t → SoundShort s t
     test u true true p q d e =
         let f : u ≡ t = cc in
         record { decoded = d ∙ ap (λ (x : Schema). some x) f; sound = subst (λ (x : Schema). T (schema_sound x)) f (rw p tt); short = subst (λ (x : Schema). T (defaults_short x)) f (rw q tt) }

@@ -1,6 +1,6 @@
 -- The entry's answer as the rules' number and length, and what its steps say.
 use Rattle.std.specs.Prelude.{ℕ, suc, ◌≤◌, ltb, ℤ, pos, negsuc, neg_ℤ, ◌≡◌, List, ◌⊎◌, length}
-use Rattle.base.specs.Base.{if◌then◌else◌, Result, ok, stop}
+use Rattle.base.specs.Base.{when◌then◌else◌, Result, ok, stop}
 use Rattle.frame.specs.Tree.{Value, Schema}
 use Rattle.frame.specs.ValueFrame.{decode_value}
 use Rattle.frame.specs.SchemaFrame.{decode_schema}
@@ -58,5 +58,5 @@ entry_of (A.Refused e) = Refused e
 
 -- how much of the workspace is cleared without a look: the result, and 4,096 bytes in any case
 unfoldable pub used_for : Resolved → ℕ
-used_for (Accepted n) = if ltb n 4096 then 4096 else n
+used_for (Accepted n) = when ltb n 4096 then 4096 else n
 used_for (Refused e) = 4096

@@ -10,7 +10,7 @@ use lib.IntN.{pos}
 use lib.ListN.{length, take, drop, get_or, length-drop}
 use lib.Seq.{drop-length, length-take-le}
 use borrow.Author.Tests.{eq-eqb, ne_eqb}
-use Rattle.base.specs.Base.{if◌then◌else◌, ok, stop, after}
+use Rattle.base.specs.Base.{when◌then◌else◌, ok, stop, after}
 use Rattle.number.specs.Number.{all_bytes}
 use Rattle.text.specs.Measured.{Reads}
 use Rattle.duration.specs.Duration.{duration_of}
@@ -40,11 +40,11 @@ granted e h = sym e ∙ h
 -- ---- an instant, and a Duration, in a node
 pub scalar-instant : (v : List ℕ) (x : Value) → kind_of x ≡ get_or v 0 0 → is_scalar (get_or v 0 0) ≡ true → scalar_of x ≡ instant_in x
 unfolding instant_in
-scalar-instant v x k e = sym (ap (λ (t : Bool). if t then scalar_of x else Int (pos 0)) (ap is_scalar k ∙ e))
+scalar-instant v x k e = sym (ap (λ (t : Bool). when t then scalar_of x else Int (pos 0)) (ap is_scalar k ∙ e))
 
 pub no-instant : (v : List ℕ) (x : Value) → kind_of x ≡ get_or v 0 0 → is_scalar (get_or v 0 0) ≡ false → Int (pos 0) ≡ instant_in x
 unfolding instant_in
-no-instant v x k e = sym (ap (λ (t : Bool). if t then scalar_of x else Int (pos 0)) (ap is_scalar k ∙ e))
+no-instant v x k e = sym (ap (λ (t : Bool). when t then scalar_of x else Int (pos 0)) (ap is_scalar k ∙ e))
 
 pub duration-there : (v : List ℕ) → Reads (read_value 16 v) → get_or v 0 0 ≡ Kind.Duration → 13 ≤ length v
 duration-there v r k = (plain-node 16 v r Kind.Duration 12 duration-content k).0
@@ -83,7 +83,7 @@ module _ (i d : List ℕ) where
 
       pub sum-other : (get_or d 0 0 ≡ Kind.Duration → ⊥) → frame_sum i d ≡ stop 6
       unfolding duration_in after
-      sum-other h = both ∙ ap (λ (t : Bool). after (if t then ok (duration_of (octets (passed d q).0)) else stop 6) (λ y. sum (instant_in (passed i p).0) y)) (ap (λ (k : ℕ). eqb k Kind.Duration) kind-of ∙ ne_eqb (get_or d 0 0) Kind.Duration h)
+      sum-other h = both ∙ ap (λ (t : Bool). after (when t then ok (duration_of (octets (passed d q).0)) else stop 6) (λ y. sum (instant_in (passed i p).0) y)) (ap (λ (k : ℕ). eqb k Kind.Duration) kind-of ∙ ne_eqb (get_or d 0 0) Kind.Duration h)
 
       pub sum-of-both : get_or d 0 0 ≡ Kind.Duration → (x : Scalar) (y : Duration)
           → ((w : Value) (u : List ℕ) → read_value 16 i ≡ some (w, u) → x ≡ instant_in w) → ((w : Value) (u : List ℕ) → read_value 16 d ≡ some (w, u) → y ≡ duration_of (octets w)) → sum x y ≡ frame_sum i d
@@ -95,7 +95,7 @@ module _ (i d : List ℕ) where
           let ey = g (passed d q).0 b.0 b.1 in
           ap (λ (z : Scalar). sum z y) ex
           ∙ ap (sum (instant_in (passed i p).0)) ey
-          ∙ sym (both ∙ ap (λ (t : Bool). after (if t then ok (duration_of (octets (passed d q).0)) else stop 6) (λ z. sum (instant_in (passed i p).0) z)) (ap (λ (k : ℕ). eqb k Kind.Duration) kind-of ∙ eq-eqb (get_or d 0 0) Kind.Duration h))
+          ∙ sym (both ∙ ap (λ (t : Bool). after (when t then ok (duration_of (octets (passed d q).0)) else stop 6) (λ z. sum (instant_in (passed i p).0) z)) (ap (λ (k : ℕ). eqb k Kind.Duration) kind-of ∙ eq-eqb (get_or d 0 0) Kind.Duration h))
 
 -- ---- a window of frames
 module _ (o c m : List ℕ) where

@@ -10,7 +10,7 @@ use lib.IntN.{ℤ, pos, negsuc}
 use lib.ListN.{length}
 use lib.Signed.{mag}
 use borrow.Author.Tests.{ne_eqb, eqb-true, le-ltb, lt-ltb, le-leb, leb-true}
-use Rattle.base.specs.Base.{if◌then◌else◌, ok, stop, after}
+use Rattle.base.specs.Base.{when◌then◌else◌, ok, stop, after}
 use Rattle.rounding.specs.Rounding.{of_twos, to_twos}
 use Rattle.number.specs.Number.{bytes_of}
 use Rattle.duration.specs.Duration.{little_bytes, duration_of, duration_bytes}
@@ -136,11 +136,11 @@ frames-hold o c m i j k = rw ((reads_as i).checked, (reads_as j).checked, (reads
 -- what an instant's kind is in a value and as a scalar
 kind-in : (v : Value) → is_scalar (kind_of v) ≡ true → Scalars.kind_of (instant_in v) ≡ kind_of v
 unfolding instant_in scalar_of
-kind-in v e = ap (λ (t : Bool). Scalars.kind_of (if t then scalar_of v else Int (pos 0))) e ∙ kind-back (kind_of v) (number v) (scalar-kind (kind_of v) e)
+kind-in v e = ap (λ (t : Bool). Scalars.kind_of (when t then scalar_of v else Int (pos 0))) e ∙ kind-back (kind_of v) (number v) (scalar-kind (kind_of v) e)
 
 int-in : (v : Value) → is_scalar (kind_of v) ≡ false → Scalars.kind_of (instant_in v) ≡ 0x02
 unfolding instant_in
-int-in v e = ap (λ (t : Bool). Scalars.kind_of (if t then scalar_of v else Int (pos 0))) e
+int-in v e = ap (λ (t : Bool). Scalars.kind_of (when t then scalar_of v else Int (pos 0))) e
 
 instant-scalar : (k : ℕ) → is_instant k ≡ true → is_scalar k ≡ true
 unfolding is_scalar
@@ -185,13 +185,13 @@ module _ (i d : List ℕ) (v w : Value) (p : checked_value (decode_value i) ≡ 
   unfolding frame_sum after duration_in
   sum-other-instant h = rw (p, q) (go (is Kind.Duration w))
     where
-      go : (t : Bool) → after (if t then ok (duration_of (octets w)) else stop 6) (λ y. sum (instant_in v) y) ≡ stop 6
+      go : (t : Bool) → after (when t then ok (duration_of (octets w)) else stop 6) (λ y. sum (instant_in v) y) ≡ stop 6
       go true = no-sum (instant_in v) (duration_of (octets w)) (no-instant-in v h)
       go false = refl
 
   pub sum-other-duration : (kind_of w ≡ Kind.Duration → ⊥) → frame_sum i d ≡ stop 6
   unfolding frame_sum after duration_in
-  sum-other-duration h = rw (p, q) (ap (λ (t : Bool). after (if t then ok (duration_of (octets w)) else stop 6) (λ y. sum (instant_in v) y)) (ne_eqb (kind_of w) Kind.Duration h))
+  sum-other-duration h = rw (p, q) (ap (λ (t : Bool). after (when t then ok (duration_of (octets w)) else stop 6) (λ y. sum (instant_in v) y)) (ne_eqb (kind_of w) Kind.Duration h))
 
 -- an instant's kind is no other's
 same-kind-in : (v w : Value) → is_instant (kind_of w) ≡ true → Scalars.kind_of (instant_in v) ≡ Scalars.kind_of (instant_in w) → kind_of v ≡ kind_of w

@@ -1,6 +1,6 @@
 -- The calendar's entries over frames, and over slots of 32-bit numbers: what C is answered (docs/RULES.md, "Dates and instants").
 use Rattle.std.specs.Prelude.{ℕ, List, [], ◌∷◌, Bool, true, false, ℤ, pos, negsuc, neg_ℤ}
-use Rattle.base.specs.Base.{if◌then◌else◌, Result, ok, stop, ◌>>=◌}
+use Rattle.base.specs.Base.{when◌then◌else◌, Result, ok, stop, ◌>>=◌}
 use Rattle.duration.specs.Duration.{duration_of}
 use Rattle.duration.specs.declared.Duration.{Duration}
 use Rattle.scalar.specs.Scalars.{is_scalar}
@@ -17,11 +17,11 @@ use Rattle.calendar.specs.Instants.{date_of, sum, window_holds}
 
 -- the number or time that a value is; any other value counts as an Int, which is no instant either
 unfoldable pub instant_in : Value → Scalar
-instant_in v = if is_scalar (kind_of v) then scalar_of v else Int (pos 0)
+instant_in v = when is_scalar (kind_of v) then scalar_of v else Int (pos 0)
 
 -- the Duration that a value is: 6 for any other kind
 unfoldable pub duration_in : Value → Result Duration
-duration_in v = if is Kind.Duration v then ok (duration_of (octets v)) else stop 6
+duration_in v = when is Kind.Duration v then ok (duration_of (octets v)) else stop 6
 
 -- ---- a Duration added to an instant, both frames
 

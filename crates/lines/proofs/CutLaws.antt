@@ -10,13 +10,13 @@ use borrow.Author.Tests.{eq-eqb, ne_eqb}
 use lib.Dec.{eqb}
 use lib.ListN.{length, get_or, take, drop, length-append}
 use lib.Seq.{drop-cons, drop-length, take-append-add, drop-append-add}
-use Rattle.base.specs.Base.{if◌then◌else◌}
+use Rattle.base.specs.Base.{when◌then◌else◌}
 use Rattle.text.specs.Text.{Text}
 use Rattle.lines.specs.Cut.{newline, onto, lines, line_end, first_line, behind_line}
 
 -- ---- the search
 
-end-le : (b : Bool) (n k : ℕ) → n ≤ k → (if b then 0 else suc n) ≤ suc k
+end-le : (b : Bool) (n k : ℕ) → n ≤ k → (when b then 0 else suc n) ≤ suc k
 end-le true n k h = omega arith
 end-le false n k h = suc-le-suc h
 
@@ -48,8 +48,8 @@ end_none s i e h g =
 -- ---- the lines
 
 first_step : (b : Bool) (c : ℕ) (s : Text) (ls : List Text) (n : ℕ) → (n < length s → ls ≡ take n s ∷ lines (drop (suc n) s))
-    → (if b then 0 else suc n) < suc (length s)
-    → (if b then [] ∷ lines s else onto c ls) ≡ take (if b then 0 else suc n) (c ∷ s) ∷ lines (drop (suc (if b then 0 else suc n)) (c ∷ s))
+    → (when b then 0 else suc n) < suc (length s)
+    → (when b then [] ∷ lines s else onto c ls) ≡ take (when b then 0 else suc n) (c ∷ s) ∷ lines (drop (suc (when b then 0 else suc n)) (c ∷ s))
 unfolding onto
 first_step true c s ls n f h = refl
 first_step false c s ls n f h = ap (onto c) (f (le_of_suc-le-suc h))
@@ -70,8 +70,8 @@ unfolding onto
 onto-only c [] = refl
 onto-only c (d ∷ s) = refl
 
-last_step : (b : Bool) (c : ℕ) (s : Text) (n : ℕ) → (n ≡ length s → lines s ≡ only s) → (if b then 0 else suc n) ≡ suc (length s)
-    → (if b then [] ∷ lines s else onto c (lines s)) ≡ (c ∷ s) ∷ []
+last_step : (b : Bool) (c : ℕ) (s : Text) (n : ℕ) → (n ≡ length s → lines s ≡ only s) → (when b then 0 else suc n) ≡ suc (length s)
+    → (when b then [] ∷ lines s else onto c (lines s)) ≡ (c ∷ s) ∷ []
 last_step true c s n f h = absurd (omega arith)
 last_step false c s n f h = ap (onto c) (f (suc_inj h)) ∙ onto-only c s
 
@@ -88,7 +88,7 @@ lines-last (c ∷ s) h g = lines-only (c ∷ s) h
 -- ---- a line in pieces
 
 module _ (s : Text) where
-  piece-step : (b : Bool) (n k m : ℕ) → (n ≡ k → m ≡ k + line_end s) → (if b then 0 else suc n) ≡ suc k → (if b then 0 else suc m) ≡ suc k + line_end s
+  piece-step : (b : Bool) (n k m : ℕ) → (n ≡ k → m ≡ k + line_end s) → (when b then 0 else suc n) ≡ suc k → (when b then 0 else suc m) ≡ suc k + line_end s
   piece-step true n k m f h = absurd (omega arith)
   piece-step false n k m f h = omega (arith, f (suc_inj h))
 

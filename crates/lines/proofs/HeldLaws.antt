@@ -9,7 +9,7 @@ use borrow.Author.Tests.{ltb-true, ltb-false, lt-ltb, le-ltb}
 use lib.Dec.{ltb}
 use lib.ListN.{length, take, drop, length-append, length-drop, drop_of_length-le}
 use lib.Seq.{length-take-le, take-add, take-take, take_at, drop_at, drop-drop}
-use Rattle.base.specs.Base.{if◌then◌else◌}
+use Rattle.base.specs.Base.{when◌then◌else◌}
 use Rattle.text.specs.Text.{Text}
 use Rattle.lines.specs.Cut.{line_end, has_newline, first_line, behind_line}
 use Rattle.lines.specs.Held.{Held, uncut, held_line, more}
@@ -20,15 +20,15 @@ use Rattle.lines.proofs.CutLaws.{line_end-le}
 
 held_none : (r : Reader) (line : List ℕ) → r.long ≡ true → held_line r line ≡ none
 unfolding held_line
-held_none r line e = ap (λ (b : Bool). if b then none else some (take r.filled line)) e
+held_none r line e = ap (λ (b : Bool). when b then none else some (take r.filled line)) e
 
 held-some : (r : Reader) (line : List ℕ) → r.long ≡ false → held_line r line ≡ some (take r.filled line)
 unfolding held_line
-held-some r line e = ap (λ (b : Bool). if b then none else some (take r.filled line)) e
+held-some r line e = ap (λ (b : Bool). when b then none else some (take r.filled line)) e
 
 pub held_same : (r t : Reader) (line : List ℕ) → t.filled ≡ r.filled → t.long ≡ r.long → held_line t line ≡ held_line r line
 unfolding held_line
-held_same r t line f l = ap (λ (b : Bool). if b then none else some (take t.filled line)) l ∙ ap (λ (k : ℕ). if r.long then none else some (take k line)) f
+held_same r t line f l = ap (λ (b : Bool). when b then none else some (take t.filled line)) l ∙ ap (λ (k : ℕ). when r.long then none else some (take k line)) f
 
 more-none : (room : ℕ) (p : Text) → more room none p ≡ none
 unfolding more
@@ -36,11 +36,11 @@ more-none room p = refl
 
 more-over : (room : ℕ) (t p : Text) → room < length t + length p → more room (some t) p ≡ none
 unfolding more
-more-over room t p h = ap (λ (b : Bool). if b then none else some (t ++ p)) (lt-ltb room (length t + length p) h)
+more-over room t p h = ap (λ (b : Bool). when b then none else some (t ++ p)) (lt-ltb room (length t + length p) h)
 
 more-fits : (room : ℕ) (t p : Text) → length t + length p ≤ room → more room (some t) p ≡ some (t ++ p)
 unfolding more
-more-fits room t p h = ap (λ (b : Bool). if b then none else some (t ++ p)) (le-ltb room (length t + length p) h)
+more-fits room t p h = ap (λ (b : Bool). when b then none else some (t ++ p)) (le-ltb room (length t + length p) h)
 
 -- a piece behind another is held as both in one
 pub more-more : (room : ℕ) (h : Option Text) (p q : Text) → more room (more room h p) q ≡ more room h (p ++ q)

@@ -12,7 +12,7 @@ use borrow.Author.Rules.{part_to_end}
 use lib.Dec.{ltb}
 use lib.ListN.{length, get_or, take, drop, set, length-append, length-drop, drop_of_length-le, take-append-drop}
 use lib.Seq.{take_at, drop_at, drop-cons, drop-drop, set_at, length-take-le}
-use Rattle.base.specs.Base.{if◌then◌else◌, ok, stop}
+use Rattle.base.specs.Base.{when◌then◌else◌, ok, stop}
 use Rattle.text.specs.Text.{Text, ascii}
 use Rattle.uuid_text.specs.Uuid.{hex_bytes}
 use Rattle.hex_text.specs.Hex.{frame_of, hex_of, decimal}
@@ -113,7 +113,7 @@ no_line k n m o y o' l g w p =
 -- ---- the frame of a line
 
 held_at : (room : ℕ) (l : Text) (b : Bool) (h : Option (List ℕ)) → ltb room (length l / 2) ≡ b → hex_bytes l ≡ h
-    → (line_frame room l ≡ (if b then TooLong else sized h)) × (held_frame room l ≡ (if b then [] else Option.get_or h []))
+    → (line_frame room l ≡ (when b then TooLong else sized h)) × (held_frame room l ≡ (when b then [] else Option.get_or h []))
 unfolding line_frame held_frame frame_of
 held_at room l b h p q = (rw (p, q), rw (p, q))
 

@@ -1,6 +1,6 @@
 -- A text cut into lines.
 use Rattle.std.specs.Prelude.{ℕ, suc, List, [], ◌∷◌, Bool, eqb, ltb, length, take, drop}
-use Rattle.base.specs.Base.{if◌then◌else◌}
+use Rattle.base.specs.Base.{when◌then◌else◌}
 use Rattle.text.specs.Text.{Text}
 
 abbrev pub newline : ℕ
@@ -14,12 +14,12 @@ onto c (l ∷ ls) = (c ∷ l) ∷ ls
 -- the lines of a text; the last may lack its newline
 unfoldable pub lines : Text → List Text
 lines [] = []
-lines (c ∷ s) = let ls = lines s in if eqb c newline then [] ∷ ls else onto c ls
+lines (c ∷ s) = let ls = lines s in when eqb c newline then [] ∷ ls else onto c ls
 
 -- the characters before the first newline, all where there is none
 unfoldable pub line_end : Text → ℕ
 line_end [] = 0
-line_end (c ∷ s) = let n = line_end s in if eqb c newline then 0 else suc n
+line_end (c ∷ s) = let n = line_end s in when eqb c newline then 0 else suc n
 
 -- whether a text has a newline
 abbrev pub has_newline : Text → Bool

@@ -10,7 +10,7 @@ use lib.Dec.{ltb}
 use lib.ListN.{length, take, drop, length-drop}
 use lib.Seq.{length-take-le, take-take, drop-drop, take-nil}
 use borrow.Author.Tests.{ltb-true, ltb-false, lt-ltb, le-ltb}
-use Rattle.base.specs.Base.{if◌then◌else◌, stop}
+use Rattle.base.specs.Base.{when◌then◌else◌, stop}
 use Rattle.frame.specs.Readers.{whole}
 use Rattle.frame.specs.ValueFrame.{read_value, decode_value}
 use Rattle.frame.specs.Sound.{checked_value}
@@ -19,25 +19,25 @@ use Rattle.lists.specs.Frames.{frame_at}
 
 module _ (input : List ℕ) (from to : ℕ) where
   abbrev rest : List ℕ
-  rest = if ltb (length input) to then [] else take (to - from) (drop from input)
+  rest = when ltb (length input) to then [] else take (to - from) (drop from input)
 
   pub frame_below : to < from → frame_at input from to ≡ []
   unfolding frame_at
-  frame_below h = ap (λ (b : Bool). if b then [] else rest) (lt-ltb to from h)
+  frame_below h = ap (λ (b : Bool). when b then [] else rest) (lt-ltb to from h)
 
   pub frame_past : length input < to → frame_at input from to ≡ []
   unfolding frame_at
-  frame_past h = ap (λ (b : Bool). if ltb to from then [] else (if b then [] else take (to - from) (drop from input))) (lt-ltb (length input) to h) ∙ both (ltb to from)
+  frame_past h = ap (λ (b : Bool). when ltb to from then [] else (when b then [] else take (to - from) (drop from input))) (lt-ltb (length input) to h) ∙ both (ltb to from)
     where
-      both : (b : Bool) → ◌≡◌ {A = List ℕ} (if b then [] else []) []
+      both : (b : Bool) → ◌≡◌ {A = List ℕ} (when b then [] else []) []
       both true = refl
       both false = refl
 
   pub frame-part : from ≤ to → to ≤ length input → frame_at input from to ≡ take (to - from) (drop from input)
   unfolding frame_at
   frame-part h k =
-      ap (λ (b : Bool). if b then [] else rest) (le-ltb to from h)
-      ∙ ap (λ (b : Bool). if b then [] else take (to - from) (drop from input)) (le-ltb (length input) to k)
+      ap (λ (b : Bool). when b then [] else rest) (le-ltb to from h)
+      ∙ ap (λ (b : Bool). when b then [] else take (to - from) (drop from input)) (le-ltb (length input) to k)
 
   -- a frame that has bytes is a part of the input
   pub frame-there : 0 < length (frame_at input from to) → (from ≤ to) × (to ≤ length input)

@@ -1,11 +1,11 @@
 -- A list of frames: one input and the ends of its frames, each from the end before it.
 use Rattle.std.specs.Prelude.{ℕ, ◌-◌, List, [], ◌∷◌, ltb, length, take, drop}
-use Rattle.base.specs.Base.{if◌then◌else◌}
+use Rattle.base.specs.Base.{when◌then◌else◌}
 
 -- the frame from one end to the next. An end below the start or past the input is no frame: no bytes are
 unfoldable pub frame_at : List ℕ → ℕ → ℕ → List ℕ
 frame_at input from to =
-    if ltb to from then [] else (if ltb (length input) to then [] else take (to - from) (drop from input))
+    when ltb to from then [] else (when ltb (length input) to then [] else take (to - from) (drop from input))
 
 -- the frames of the input, the first of which begins at `from`
 unfoldable pub frames_from : List ℕ → ℕ → List ℕ → List (List ℕ)

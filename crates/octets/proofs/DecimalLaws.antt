@@ -8,7 +8,7 @@ use native.Mathlib.Omega.{arith}
 use borrow.Author.Tests.{ne_eqb, lt-ltb, le-ltb}
 use lib.Dec.{eqb}
 use lib.ListN.{length}
-use Rattle.base.specs.Base.{if◌then◌else◌, stop, after}
+use Rattle.base.specs.Base.{when◌then◌else◌, stop, after}
 use Rattle.utf8.specs.Utf8.{is_utf8, code_points, points_from, ended, step_of, digits_of, all_latin1}
 use Rattle.frame.specs.Kind
 use Rattle.frame.specs.Tree.{Value, kind_of, octets}
@@ -18,11 +18,11 @@ use Rattle.types.proofs.Strings.{point_bytes-is}
 
 -- ---- code points of a text
 
-pub points-are : (s x : List ℕ) → is_utf8 s ≡ true → code_points s ≡ (if is_utf8 s then some x else none) → x ≡ points s
+pub points-are : (s x : List ℕ) → is_utf8 s ≡ true → code_points s ≡ (when is_utf8 s then some x else none) → x ≡ points s
 unfolding points or_none
 points-are s x u e = rw (e, u)
 
-joins : (b : Bool) (q : ℕ) (l : List ℕ) (n : ℕ) → length l ≤ n → length (if b then q ∷ l else l) ≤ suc n
+joins : (b : Bool) (q : ℕ) (l : List ℕ) (n : ℕ) → length l ≤ n → length (when b then q ∷ l else l) ≤ suc n
 joins true q l n h = omega arith
 joins false q l n h = omega arith
 
@@ -36,7 +36,7 @@ pub length-points : (s : List ℕ) → length (points s) ≤ length s
 unfolding points or_none code_points
 length-points s = go (is_utf8 s) _ (points-below _ 0 s)
   where
-    go : (b : Bool) (ps : List ℕ) → length ps ≤ length s → length (or_none (if b then some ps else none)) ≤ length s
+    go : (b : Bool) (ps : List ℕ) → length ps ≤ length s → length (or_none (when b then some ps else none)) ≤ length s
     go true ps h = h
     go false ps h = omega arith
 

@@ -4,7 +4,7 @@
 
 ghost use Rattle.std.specs.Prelude.{◌≡◌, List, ◌∷◌, ◌++◌, true, ℕ, ◌<◌, ◌≤◌, length, drop};
 ghost use Rattle.std.proofs.Math.Option.{some, none};
-ghost use Rattle.base.specs.Base.{if◌then◌else◌, after};
+ghost use Rattle.base.specs.Base.{when◌then◌else◌, after};
 ghost use Rattle.number.specs.Number.{bytes_of};
 ghost use Rattle.utf8.specs.Utf8.{is_utf8, code_points, all_latin1};
 ghost use Rattle.text.specs.Measured.{Reads};
@@ -203,7 +203,7 @@ pub fn resolve_duration(v: &[u8], out: &mut [u8], depth: usize) -> Answer
 }
 
 fn fixed_too_short(precision: u32, sized: bool, size: usize) -> bool
-    ensures { result ≡ fixed_too_short precision (if sized then some size else none) }
+    ensures { result ≡ fixed_too_short precision (when sized then some size else none) }
 {
     if sized {
         return decimal::too_short_for(precision, size);
@@ -278,7 +278,7 @@ pub fn resolve_decimal(
     depth: usize,
 ) -> Answer
     requires { Reads (read_value depth v.now) }
-    ensures { Wrote (on_read (λ w. encoded (resolve_decimal precision scale (if sized then some size else none) w)) (read_value depth v.now)) out.new result }
+    ensures { Wrote (on_read (λ w. encoded (resolve_decimal precision scale (when sized then some size else none) w)) (read_value depth v.now)) out.new result }
 {
     if precision < scale {
         return Answer::Refused(refusal::SCALE_EXCEEDS_PRECISION);

@@ -8,7 +8,7 @@ use lib.IntN.{ℤ}
 use lib.Dec.{eqb, leb, ltb}
 use lib.Ieee.{binary32, binary64, of_bits, nan_bits}
 use borrow.Author.Tests.{lt-ltb, le-ltb, eqb-true, eqb-false, leb-true, ltb-true, ltb-false}
-use Rattle.base.specs.Base.{if◌then◌else◌}
+use Rattle.base.specs.Base.{when◌then◌else◌}
 use Rattle.rounding.specs.Rounding.{of_twos, to_twos}
 use Rattle.scalar.specs.Conversion.{long_of_int, in_int, int_of_long}
 use Rattle.scalar.specs.Scalars.{float_of, double_of, time_of, of_content, is_scalar, is_short, width_of, kind_of, content_of, int_of, narrowed, int_cast, long_cast, keep, time_cast}
@@ -50,7 +50,7 @@ pub scalar-kind : (k : ℕ) → is_scalar k ≡ true → ScalarKind k
 unfolding is_scalar
 scalar-kind k h = go (ltb k 6) (ltb k 0x10) (leb 2 k) (leb k 0x18) refl refl refl refl h
   where
-    go : (a b c d : Bool) → ltb k 6 ≡ a → ltb k 0x10 ≡ b → leb 2 k ≡ c → leb k 0x18 ≡ d → (if a then c else if b then false else d) ≡ true → ScalarKind k
+    go : (a b c d : Bool) → ltb k 6 ≡ a → ltb k 0x10 ≡ b → leb 2 k ≡ c → leb k 0x18 ≡ d → (when a then c else when b then false else d) ≡ true → ScalarKind k
     go true b true d e f g i j = number-kind k (leb-true 2 k g) (ltb-true k 6 e)
     go true b false d e f g i j = absurd (true≢false (sym j))
     go false true c d e f g i j = absurd (true≢false (sym j))
@@ -64,7 +64,7 @@ unfolding time_of
 time-back k z a b = go (eqb k 0x10) (ltb k 0x12) (eqb k 0x12) (eqb k 0x13) (eqb k 0x14) (eqb k 0x15) (eqb k 0x16) (eqb k 0x17) refl refl refl refl refl refl refl refl
   where
     go : (d l m n o p q r : Bool) → eqb k 0x10 ≡ d → ltb k 0x12 ≡ l → eqb k 0x12 ≡ m → eqb k 0x13 ≡ n → eqb k 0x14 ≡ o → eqb k 0x15 ≡ p → eqb k 0x16 ≡ q → eqb k 0x17 ≡ r
-        → kind_of (if d then Date z else if l then TimeMillis z else if m then TimeMicros z else if n then TimestampMillis z else if o then TimestampMicros z else if p then TimestampNanos z else if q then LocalTimestampMillis z else if r then LocalTimestampMicros z else LocalTimestampNanos z)
+        → kind_of (when d then Date z else when l then TimeMillis z else when m then TimeMicros z else when n then TimestampMillis z else when o then TimestampMicros z else when p then TimestampNanos z else when q then LocalTimestampMillis z else when r then LocalTimestampMicros z else LocalTimestampNanos z)
         ≡ k
     go true l m n o p q r e1 e2 e3 e4 e5 e6 e7 e8 = sym (eqb-true k 0x10 e1)
     go false true m n o p q r e1 e2 e3 e4 e5 e6 e7 e8 = let x = eqb-false k 0x10 e1 in let y = ltb-true k 0x12 e2 in omega arith
@@ -145,18 +145,18 @@ content-back k b (double e) h = ap content_of (of-kind-5 k b e) ∙ double-conte
 content-back k b (short l m) h =
     let n : b < 2 ^ 32 = small k b 4 (short-4 k l m) h in
     ap content_of (short-is k b l m) ∙ ap (λ (x : ℕ). content_of (time_of k (of_twos 32 x))) (mod-eq_of_lt n) ∙ time-content k (of_twos 32 b)
-    ∙ ap (λ (t : Bool). to_twos (if t then 32 else 64) (of_twos 32 b)) (lt-ltb k 0x12 m) ∙ twos_back 32 b n
+    ∙ ap (λ (t : Bool). to_twos (when t then 32 else 64) (of_twos 32 b)) (lt-ltb k 0x12 m) ∙ twos_back 32 b n
 content-back k b (wide l m) h =
     ap content_of (of-long-time k b l) ∙ time-content k (of_twos 64 b)
-    ∙ ap (λ (t : Bool). to_twos (if t then 32 else 64) (of_twos 64 b)) (le-ltb k 0x12 l) ∙ twos_back 64 b (small k b 8 (wide-8 k l) h)
+    ∙ ap (λ (t : Bool). to_twos (when t then 32 else 64) (of_twos 64 b)) (le-ltb k 0x12 l) ∙ twos_back 64 b (small k b 8 (wide-8 k l) h)
 
 -- ---- a Long as an Int
 
-pub long-as-int : (b : ℕ) → b < 2 ^ 64 → int_cast (Long (of_twos 64 b)) ≡ (if in_int b then To (Int (of_twos 32 (int_of_long b))) else OutOfRange)
+pub long-as-int : (b : ℕ) → b < 2 ^ 64 → int_cast (Long (of_twos 64 b)) ≡ (when in_int b then To (Int (of_twos 32 (int_of_long b))) else OutOfRange)
 unfolding narrowed
 long-as-int b h = ap (λ (x : ℕ). int_of (narrowed x)) (twos_back 64 b h) ∙ go (in_int b)
   where
-    go : (t : Bool) → int_of (if t then ToInt (int_of_long b) else NoInt) ≡ (if t then To (Int (of_twos 32 (int_of_long b))) else OutOfRange)
+    go : (t : Bool) → int_of (when t then ToInt (int_of_long b) else NoInt) ≡ (when t then To (Int (of_twos 32 (int_of_long b))) else OutOfRange)
     go true = refl
     go false = refl
 

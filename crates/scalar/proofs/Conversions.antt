@@ -6,7 +6,7 @@ use mathlib.Core.Bool.{Bool, true, false, ◌||◌, true≢false}
 use mathlib.Core.Option.{none, some}
 use lib.Dec.{leb, ltb}
 use borrow.Author.Tests.{lt-ltb, le-ltb, le-leb, ltb-true, ltb-false, leb-true}
-use Rattle.base.specs.Base.{if◌then◌else◌}
+use Rattle.base.specs.Base.{when◌then◌else◌}
 use Rattle.text.specs.Text.{Text, ascii, same}
 use Rattle.rounding.specs.Rounding.{sign_bit, infinity}
 use Rattle.scalar.specs.Conversion.{long_of_int, in_int, int_of_long, finite_double, parse_special_float}
@@ -18,7 +18,7 @@ pub int-inside : (m : ℕ) → m < 2 ^ 32 → in_int (long_of_int m) ≡ true
 unfolding long_of_int in_int
 int-inside m h = go (ltb m (2 ^ 31)) refl
   where
-    go : (t : Bool) → ltb m (2 ^ 31) ≡ t → (ltb (if t then m else m + (2 ^ 64 - 2 ^ 32)) (2 ^ 31) || leb (2 ^ 64 - 2 ^ 31) (if t then m else m + (2 ^ 64 - 2 ^ 32))) ≡ true
+    go : (t : Bool) → ltb m (2 ^ 31) ≡ t → (ltb (when t then m else m + (2 ^ 64 - 2 ^ 32)) (2 ^ 31) || leb (2 ^ 64 - 2 ^ 31) (when t then m else m + (2 ^ 64 - 2 ^ 32))) ≡ true
     go true e = ap (λ (x : Bool). x || leb (2 ^ 64 - 2 ^ 31) m) e
     go false e =
         let l : 2 ^ 31 ≤ m = ltb-false m (2 ^ 31) e in
@@ -29,7 +29,7 @@ pub int-back : (m : ℕ) → m < 2 ^ 32 → int_of_long (long_of_int m) ≡ m
 unfolding long_of_int int_of_long
 int-back m h = go (ltb m (2 ^ 31))
   where
-    go : (t : Bool) → (if t then m else m + (2 ^ 64 - 2 ^ 32)) % 2 ^ 32 ≡ m
+    go : (t : Bool) → (when t then m else m + (2 ^ 64 - 2 ^ 32)) % 2 ^ 32 ≡ m
     go true = omega arith
     go false = omega arith
 
@@ -38,13 +38,13 @@ pub long-back : (n : ℕ) → n < 2 ^ 64 → in_int n ≡ true → long_of_int (
 unfolding long_of_int in_int int_of_long
 long-back n h e = go (ltb n (2 ^ 31)) (leb (2 ^ 64 - 2 ^ 31) n) refl refl e
   where
-    go : (s t : Bool) → ltb n (2 ^ 31) ≡ s → leb (2 ^ 64 - 2 ^ 31) n ≡ t → (s || t) ≡ true → (if ltb (n % 2 ^ 32) (2 ^ 31) then n % 2 ^ 32 else n % 2 ^ 32 + (2 ^ 64 - 2 ^ 32)) ≡ n
+    go : (s t : Bool) → ltb n (2 ^ 31) ≡ s → leb (2 ^ 64 - 2 ^ 31) n ≡ t → (s || t) ≡ true → (when ltb (n % 2 ^ 32) (2 ^ 31) then n % 2 ^ 32 else n % 2 ^ 32 + (2 ^ 64 - 2 ^ 32)) ≡ n
     go true t f g q =
         let l : n < 2 ^ 31 = ltb-true n (2 ^ 31) f in
-        ap (λ (x : Bool). if x then n % 2 ^ 32 else n % 2 ^ 32 + (2 ^ 64 - 2 ^ 32)) (lt-ltb (n % 2 ^ 32) (2 ^ 31) (omega arith)) ∙ omega arith
+        ap (λ (x : Bool). when x then n % 2 ^ 32 else n % 2 ^ 32 + (2 ^ 64 - 2 ^ 32)) (lt-ltb (n % 2 ^ 32) (2 ^ 31) (omega arith)) ∙ omega arith
     go false true f g q =
         let l : 2 ^ 64 - 2 ^ 31 ≤ n = leb-true (2 ^ 64 - 2 ^ 31) n g in
-        ap (λ (x : Bool). if x then n % 2 ^ 32 else n % 2 ^ 32 + (2 ^ 64 - 2 ^ 32)) (le-ltb (n % 2 ^ 32) (2 ^ 31) (omega arith)) ∙ omega arith
+        ap (λ (x : Bool). when x then n % 2 ^ 32 else n % 2 ^ 32 + (2 ^ 64 - 2 ^ 32)) (le-ltb (n % 2 ^ 32) (2 ^ 31) (omega arith)) ∙ omega arith
     go false false f g q = absurd (true≢false (sym q))
 
 -- ---- a finite Double's pattern stands below infinity's

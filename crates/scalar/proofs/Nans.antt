@@ -5,7 +5,7 @@ use native.Mathlib.Omega.{arith}
 use mathlib.Core.Bool.{Bool, true, false, ◌||◌}
 use mathlib.Core.Option.{none, some}
 use lib.Dec.{T}
-use Rattle.base.specs.Base.{if◌then◌else◌}
+use Rattle.base.specs.Base.{when◌then◌else◌}
 use Rattle.text.specs.Text.{Text, ascii, same}
 use Rattle.text.proofs.TextLaws.{same→≡}
 use Rattle.rounding.specs.Rounding.{of_twos}
@@ -51,7 +51,7 @@ float_is_nan-text t b e h = go (same t (ascii "NaN")) (same t (ascii "INF") || s
         let z : ◌≡◌ {A = ℕ} 0 1 = cc in
         absurd (omega arith)
 
-    go : (x y z : Bool) → (T x → t ≡ ascii "NaN") → (if x then some 0x7fc00000 else if y then some 0x7f800000 else if z then some 0xff800000 else none) ≡ some b → t ≡ ascii "NaN"
+    go : (x y z : Bool) → (T x → t ≡ ascii "NaN") → (when x then some 0x7fc00000 else when y then some 0x7f800000 else when z then some 0xff800000 else none) ≡ some b → t ≡ ascii "NaN"
     go true y z f k = f tt
     go false true z f k = number 0x7f800000 refl k
     go false false true f k = number 0xff800000 refl k

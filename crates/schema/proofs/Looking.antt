@@ -10,7 +10,7 @@ use lib.Dec.{T, eqb}
 use lib.ListN.{length, length-set, get_or, set, drop}
 use lib.Seq.{drop-drop, get_or-set_same, get_or-set_other}
 use borrow.Author.Tests.{eqb-true, eqb-false, eq-eqb, not-true}
-use Rattle.base.specs.Base.{if◌then◌else◌}
+use Rattle.base.specs.Base.{when◌then◌else◌}
 use Rattle.text.specs.Text.{Text, same}
 use Rattle.text.specs.Read.{Read, ◌>>=◌, read_counted}
 use Rattle.text.specs.Measured.{Reads}
@@ -53,7 +53,7 @@ mark-there b v = go (eqb b 0) (eqb b v)
     own : eqb v v || eqb v 255 ≡ true
     own = rw (eq-eqb v v refl) refl
 
-    go : (x y : Bool) → may_be (if x then v else if y then v else 255) v ≡ true
+    go : (x y : Bool) → may_be (when x then v else when y then v else 255) v ≡ true
     go true y = own
     go false true = own
     go false false = or-true (eqb 255 v)
@@ -67,7 +67,7 @@ mark-stays b v w n e = go (eqb b 0) refl (eqb b v) refl
     zero-not false true p q h z = omega (arith, eqb-true b 255 q)
     zero-not false false p q h z = let c : ◌≡◌ {A = ℕ} 0 1 = cc in omega arith
 
-    go : (x : Bool) → eqb b 0 ≡ x → (y : Bool) → eqb b v ≡ y → may_be (if x then v else if y then v else 255) w ≡ true
+    go : (x : Bool) → eqb b 0 ≡ x → (y : Bool) → eqb b v ≡ y → may_be (when x then v else when y then v else 255) w ≡ true
     go true p y q = absurd (zero-not (eqb b w) (eqb b 255) refl refl e (eqb-true b 0 p))
     go false p true q = ap (λ k. may_be k w) (sym (eqb-true b v q)) ∙ e
     go false p false q = or-true (eqb 255 w)

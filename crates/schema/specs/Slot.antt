@@ -1,6 +1,6 @@
 -- The two slots of a name in a table of 2,048 or 8,192, one in each half, and what stands there: equal names have the same.
 use Rattle.std.specs.Prelude.{ℕ, ◌+◌, ◌/◌, ◌%◌, Bool, true, false, ◌||◌, eqb}
-use Rattle.base.specs.Base.{if◌then◌else◌}
+use Rattle.base.specs.Base.{when◌then◌else◌}
 use Rattle.text.specs.Text.{Text}
 use Rattle.text.specs.Hash.{hash}
 
@@ -28,7 +28,7 @@ unfoldable pub mark_of : ℕ → ℕ
 mark_of h = 1 + h % 251
 
 unfoldable pub marked : ℕ → ℕ → ℕ
-marked b v = if eqb b 0 then v else if eqb b v then v else 255
+marked b v = when eqb b 0 then v else when eqb b v then v else 255
 
 -- a slot may be that of a name with the mark v
 unfoldable pub may_be : ℕ → ℕ → Bool

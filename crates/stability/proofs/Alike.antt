@@ -9,7 +9,7 @@ use lib.Dec.{T, ltb, eqb, eqb_refl, not_T}
 use lib.ListN.{length}
 use lib.Ieee.Bits.{is_true, is_false}
 use lib.Ieee.Fits.{and_l, and_i}
-use Rattle.base.specs.Base.{if◌then◌else◌, Result, ok, stop, after}
+use Rattle.base.specs.Base.{when◌then◌else◌, Result, ok, stop, after}
 use Rattle.text.specs.Text.{Text, same}
 use Rattle.text.proofs.TextLaws.{same→≡}
 use Rattle.frame.specs.Kind
@@ -120,7 +120,7 @@ unfolding has_name last_under is_some or_else
 has-last_under n no_entries = refl
 has-last_under n (entry m v es) = go (same m n) (last_under n es) (has-last_under n es)
   where
-    go : (b : Bool) (o : Option Value) → has_name n es ≡ is_some o → (b || has_name n es) ≡ is_some (or_else o (if b then some v else none))
+    go : (b : Bool) (o : Option Value) → has_name n es ≡ is_some o → (b || has_name n es) ≡ is_some (or_else o (when b then some v else none))
     go true none e = refl
     go true (some w) e = refl
     go false none e = e
@@ -153,7 +153,7 @@ last_under-keep g n f e no_entries = refl
 last_under-keep g n f e (entry m v es) = go (same m n) refl (last_under-keep g n f e es)
   where
     go : (b : Bool) → same m n ≡ b → last_under n (keep_entries g es) ≡ Option.map f (last_under n es)
-        → last_under n (keep_entry m v (g m v) (has_name m es) (keep_entries g es)) ≡ Option.map f (or_else (last_under n es) (if same m n then some v else none))
+        → last_under n (keep_entry m v (g m v) (has_name m es) (keep_entries g es)) ≡ Option.map f (or_else (last_under n es) (when same m n then some v else none))
     go true p ih =
         let q : m ≡ n = same→≡ m n (subst (λ (b : Bool). T b) (sym p) tt) in
         rw (p, q, e v, has-last_under n es) (keep-hit n v (f v) f (last_under n es) (keep_entries g es) refl ih)
@@ -319,7 +319,7 @@ pair_same : (a b : Schema) → Same a → Same b → T (not (eqb (schema_kind a)
 unfolding nullable_pair resolve
 pair_same a b ca cb ua ub ks h v = go (is_null a) refl h
   where
-    go : (x : Bool) → is_null a ≡ x → T (if x then not (is_null b) && only_null_leads_to 0 ks else is_null b && only_null_leads_to 1 ks)
+    go : (x : Bool) → is_null a ≡ x → T (when x then not (is_null b) && only_null_leads_to 0 ks else is_null b && only_null_leads_to 1 ks)
         → (trials (variant a (variant b no_variants)) (strip b (strip a v)) ≡ trials (variant a (variant b no_variants)) v)
         × (kind_of (strip b (strip a v)) ≡ kind_of v) × (flat (strip b (strip a v)) ≡ flat v)
     go true p k =
@@ -363,7 +363,7 @@ checked-same s p v w e k = go (schema_sound s) refl (defaults_short s)
     same_outcome h = sym (strip-same s h p v) ∙ ap (resolve s) e ∙ strip-same s h p w
 
     go : (x : Bool) → schema_sound s ≡ x → (y : Bool)
-        → after (if x then (if y then ok s else stop 4) else stop 3) (λ t. after (resolve t v) k) ≡ after (if x then (if y then ok s else stop 4) else stop 3) (λ t. after (resolve t w) k)
+        → after (when x then (when y then ok s else stop 4) else stop 3) (λ t. after (resolve t v) k) ≡ after (when x then (when y then ok s else stop 4) else stop 3) (λ t. after (resolve t w) k)
     go false q y = refl
     go true q false = refl
     go true q true = ap (λ (r : Outcome). after r k) (same_outcome (subst (λ (x : Bool). T x) (sym q) tt))
@@ -373,7 +373,7 @@ answers-same : (schema a b : List ℕ) (tree : Schema) → decode_schema schema 
 unfolding answer record_answer checked_value after
 answers-same schema a b tree e p l buffer workspace =
     rw (e, l.left_is, l.right_is, is_true (keys_rise l.left) l.left_keys, is_true (keys_rise l.right) l.right_keys)
-    (ap (λ (r : Result (List ℕ)). if ltb workspace workspace_size then stop 1 else r) (checked-same tree p l.left l.right l.equal (λ r. checked_result buffer (encode_value r))))
+    (ap (λ (r : Result (List ℕ)). when ltb workspace workspace_size then stop 1 else r) (checked-same tree p l.left l.right l.equal (λ r. checked_result buffer (encode_value r))))
 
 -- what two calls show of one answer
 one_answer : (x y : Result (List ℕ)) → x ≡ y → (buffer workspace buffer₁ workspace₁ buffer₂ workspace₂ : List ℕ) (r₁ r₂ : Resolved)

@@ -7,7 +7,7 @@ use mathlib.Core.Bool.{Bool, true, false, ◌&&◌, ◌||◌}
 use lib.Dec.{T, eqb, eqb→eq}
 use lib.ListN.{length, get_or}
 use lib.Ieee.Fits.{and_l, and_r}
-use Rattle.base.specs.Base.{if◌then◌else◌}
+use Rattle.base.specs.Base.{when◌then◌else◌}
 use Rattle.text.specs.Text.{Text, same}
 use Rattle.text.proofs.TextLaws.{same→≡}
 use Rattle.frame.specs.Kind
@@ -71,7 +71,7 @@ module _ (decimal : Option ℕ → List ℕ → Bool) where
   in_order (field n d s fs) no_entries h = ended
   in_order (field n d s fs) (entry m v es) h = go (same m n) refl h (λ k. in_order fs es k) (λ k. in_order fs (entry m v es) k)
     where
-      go : (b : Bool) → same m n ≡ b → T (if b then agrees decimal s v && fields_agree decimal fs es else fields_agree decimal fs (entry m v es))
+      go : (b : Bool) → same m n ≡ b → T (when b then agrees decimal s v && fields_agree decimal fs es else fields_agree decimal fs (entry m v es))
           → (T (fields_agree decimal fs es) → InOrder (names es) (field_names fs)) → (T (fields_agree decimal fs (entry m v es)) → InOrder (m ∷ names es) (field_names fs))
           → InOrder (m ∷ names es) (n ∷ field_names fs)
       go true p h f g = rw (same→≡ m n (rw p tt)) (taken (f (and_r (agrees decimal s v) (fields_agree decimal fs es) h)))

@@ -7,7 +7,7 @@ use mathlib.Core.Bool.{Bool, true, false, ◌&&◌, ◌||◌, not}
 use lib.Dec.{T}
 use lib.Ieee.Bits.{is_true}
 use lib.Ieee.Fits.{and_l, and_r, and_i}
-use Rattle.base.specs.Base.{if◌then◌else◌, ok, stop, after}
+use Rattle.base.specs.Base.{when◌then◌else◌, ok, stop, after}
 use Rattle.base.proofs.Okay.{okay-is}
 use Rattle.text.specs.Text.{Text, same}
 use Rattle.text.proofs.TextLaws.{same→≡}
@@ -122,7 +122,7 @@ last_under-none n (field k d s fs) (entry m v rs) f h =
     go (same k n) refl h (λ g. last_under-none n fs rs (and_r (same m k && fits s v) (fields_fit fs rs) f) g) e
   where
     go : (b : Bool) → same k n ≡ b → T (not (b || has_field n fs)) → (T (not (has_field n fs)) → last_under n rs ≡ none) → m ≡ k
-        → or_else (last_under n rs) (if same m n then some v else none) ≡ none
+        → or_else (last_under n rs) (when same m n then some v else none) ≡ none
     go true p g rest e = absurd g
     go false p g rest e = rw (rest g, e, p)
 

@@ -7,7 +7,7 @@ use mathlib.Core.Bool.{Bool, true, false, ◌||◌, not}
 use native.Mathlib.Omega.{arith}
 use lib.Dec.{T, T_not}
 use lib.Ieee.Bits.{is_true, is_false}
-use Rattle.base.specs.Base.{if◌then◌else◌}
+use Rattle.base.specs.Base.{when◌then◌else◌}
 use Rattle.text.specs.Text.{Text, same}
 use Rattle.text.proofs.TextLaws.{same→≡}
 use Rattle.frame.specs.Tree.{Value, Values, Entries, Schema, Fields, item, no_entries, entry, no_fields, field, no_variants, variant, entries}
@@ -40,7 +40,7 @@ names (entry n v es) = n ∷ names es
 
 unfoldable pub known : Fields → List Text → List Text
 known fs [] = []
-known fs (n ∷ ns) = if has_field n fs then n ∷ known fs ns else known fs ns
+known fs (n ∷ ns) = when has_field n fs then n ∷ known fs ns else known fs ns
 
 unfoldable pub present : {A : Type 0} → Option A → Bool
 present none = false
@@ -51,7 +51,7 @@ unfolding strip_field has_field present
 strip-has no_fields n v = refl
 strip-has (field m d s fs) n v = go (same m n) (strip-has fs n v)
   where
-    go : (b : Bool) → present (strip_field fs n v) ≡ has_field n fs → present (if b then some (strip s v) else strip_field fs n v) ≡ (b || has_field n fs)
+    go : (b : Bool) → present (strip_field fs n v) ≡ has_field n fs → present (when b then some (strip s v) else strip_field fs n v) ≡ (b || has_field n fs)
     go true e = refl
     go false e = e
 
@@ -61,7 +61,7 @@ kept-names fs no_entries = refl
 kept-names fs (entry n v es) = go (strip_field fs n v) (has_name n es) (strip-has fs n v) (kept-names fs es)
   where
     go : (o : Option Value) (later : Bool) → present o ≡ has_field n fs → names (kept fs es) ≡ known fs (names es)
-        → names (keep_entry n v o later (kept fs es)) ≡ (if has_field n fs then n ∷ known fs (names es) else known fs (names es))
+        → names (keep_entry n v o later (kept fs es)) ≡ (when has_field n fs then n ∷ known fs (names es) else known fs (names es))
     go none later p e = rw (sym p) e
     go (some w) true p e = rw (sym p, e)
     go (some w) false p e = rw (sym p, e)

@@ -1,7 +1,7 @@
 -- What alike records lose (docs/RULES.md, "What is promised of results").
 use Rattle.std.proofs.Math.Option.{Option, none, some}
 use Rattle.std.specs.Prelude.{Bool, true, false, ◌||◌}
-use Rattle.base.specs.Base.{if◌then◌else◌}
+use Rattle.base.specs.Base.{when◌then◌else◌}
 use Rattle.text.specs.Text.{Text, same}
 use Rattle.frame.specs.Tree.{Value, Values, Entries, Schema, Fields, Variants, no_items, item, no_entries, entry, no_fields, field, no_variants, variant}
 
@@ -65,7 +65,7 @@ unfoldable mutual
   -- the value of a field, or none under a name that the schema lacks
   pub strip_field : Fields → Text → Value → Option Value
   strip_field no_fields n v = none
-  strip_field (field m d s fs) n v = if same m n then some (strip s v) else strip_field fs n v
+  strip_field (field m d s fs) n v = when same m n then some (strip s v) else strip_field fs n v
 
   -- what a union's value meets: each variant
   pub strip_variants : Variants → Value → Value

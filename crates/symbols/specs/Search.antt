@@ -1,7 +1,7 @@
 -- What the search for a symbol answers, and `resolve_enum` at an Enum schema that was read.
 use Rattle.std.specs.Prelude.{ℕ, zero, suc, ◌≡◌, List, eqb}
 use Rattle.std.proofs.Math.Option.{Option, none, some}
-use Rattle.base.specs.Base.{if◌then◌else◌, stop}
+use Rattle.base.specs.Base.{when◌then◌else◌, stop}
 use Rattle.text.specs.Text.{Text}
 use Rattle.text.specs.Read.{Read, text_at}
 use Rattle.frame.specs.Tree.{Value, Schema}
@@ -39,7 +39,7 @@ place_in t (some e) = place_of e.0.0 e.0.1 t
 
 -- what a round looks for: at 0 the symbol, and elsewhere the text that starts there
 unfoldable pub sought_in : List ℕ → Text → ℕ → Text
-sought_in s t from = if eqb from 0 then t else text_at s from
+sought_in s t from = when eqb from 0 then t else text_at s from
 
 -- what such a round finds at a place
 unfoldable pub placed : ℕ → ℕ → Place

@@ -6,7 +6,7 @@ use mathlib.Core.Bool.{Bool, true, false}
 use native.Mathlib.Omega.{arith}
 use lib.Dec.{T, eqb, ltb, lt→ltb, ltb→lt}
 use borrow.Author.Tests.{eqb-true, eq-eqb, ne_eqb}
-use Rattle.base.specs.Base.{if◌then◌else◌}
+use Rattle.base.specs.Base.{when◌then◌else◌}
 use Rattle.text.specs.Text.{Text, less}
 use Rattle.text.specs.Order.{Below, prefix, differ, share}
 
@@ -16,7 +16,7 @@ less→Below a [] h = absurd h
 less→Below [] (y ∷ ys) h = prefix
 less→Below (x ∷ xs) (y ∷ ys) h = go (eqb x y) (λ e. eqb-true x y e) (λ t. less→Below xs ys t) h
   where
-    go : (b : Bool) → (b ≡ true → x ≡ y) → (T (less xs ys) → Below xs ys) → T (if b then less xs ys else ltb x y) → Below (x ∷ xs) (y ∷ ys)
+    go : (b : Bool) → (b ≡ true → x ≡ y) → (T (less xs ys) → Below xs ys) → T (when b then less xs ys else ltb x y) → Below (x ∷ xs) (y ∷ ys)
     go true e f t = share (e refl) (f t)
     go false e f t = differ (ltb→lt x y t)
 

@@ -8,7 +8,7 @@ use native.Mathlib.Omega.{arith}
 use lib.Dec.{T, leb, ltb, eqb, ltb→lt}
 use lib.ListN.{length, drop, get_or}
 use lib.Ieee.Fits.{and_l, and_r}
-use Rattle.base.specs.Base.{if◌then◌else◌}
+use Rattle.base.specs.Base.{when◌then◌else◌}
 use Rattle.number.specs.Number.{number_at}
 use Rattle.text.specs.Measured.{Reads}
 use Rattle.frame.specs.Kind
@@ -85,10 +85,10 @@ lookup-below n least (x ∷ ks) k i t e = go (λ u f. lookup-below n (suc x.0) k
 
     go : (T (kinds_sound n (suc x.0) ks) → lookup_kind k ks ≡ some i → i < n) → (b : Bool) → eqb x.0 k ≡ b → i < n
     go rest true g =
-        let f : some x.1 ≡ some i = sym (ap (λ b. if b then some x.1 else lookup_kind k ks) g) ∙ e in
+        let f : some x.1 ≡ some i = sym (ap (λ b. when b then some x.1 else lookup_kind k ks) g) ∙ e in
         let l : x.1 < n = ltb→lt x.1 n (and_r a (ltb x.1 n) (and_l (a && ltb x.1 n) (kinds_sound n (suc x.0) ks) t)) in
         omega (arith, some_same x.1 i f)
-    go rest false g = rest (and_r (a && ltb x.1 n) (kinds_sound n (suc x.0) ks) t) (sym (ap (λ b. if b then some x.1 else lookup_kind k ks) g) ∙ e)
+    go rest false g = rest (and_r (a && ltb x.1 n) (kinds_sound n (suc x.0) ks) t) (sym (ap (λ b. when b then some x.1 else lookup_kind k ks) g) ∙ e)
 
 lookup-within : (ks : List (ℕ × ℕ)) (n : ℕ) → T (kinds_sound n 0 ks) → (x : Option ℕ) (i : ℕ) → table_lookup ks x ≡ some i → i < n
 unfolding table_lookup

@@ -10,7 +10,7 @@ use borrow.Author.Count.{below_more}
 use lib.Dec.{ltb, eqb}
 use lib.ListN.{length, get_or}
 use borrow.Author.Tests.{lt-ltb, ltb-true, ltb-false, not-true, not-false}
-use Rattle.base.specs.Base.{if◌then◌else◌, accepted}
+use Rattle.base.specs.Base.{when◌then◌else◌, accepted}
 use Rattle.frame.specs.Tree.{Value}
 use Rattle.avro.specs.Union.{Trial, no_trial, choose, find_schema_with_known_schemata, must_be_tried, named_kind, named_variant, position_of, table_lookup, take_variant, takes, unnamed_kind, unnamed_variant}
 use Rattle.avro.proofs.UnionLaws.{none-some, take-accepted, take-untried, take-refused, first-none, first-at, named_none, named-at, named-any, named-is, takes-by, takes-other, chosen-both, chosen-trial}
@@ -98,13 +98,13 @@ module _ {d : ℕ} {s : List ℕ} {way : Way} (g : Goes d s way) (w : Value) whe
   unfolding ToldBefore Passes next_turn
   known_next (Turn.Before j) k p = go (ltb j way.before) refl
     where
-      go : (b : Bool) → ltb j way.before ≡ b → ToldBefore g w (if b then Turn.Before (j + 1) else Turn.Table)
+      go : (b : Bool) → ltb j way.before ≡ b → ToldBefore g w (when b then Turn.Before (j + 1) else Turn.Table)
       go true e = let l = ltb-true j way.before e in (omega arith, taken_more j k.1 (p l))
       go false e = taken_as j way.before (omega (arith, k.0, ltb-false j way.before e)) k.1
   known_next Turn.Table k p = (omega arith, (before-count g, (k, p)))
   known_next (Turn.Behind j) k p = go (ltb j way.count) refl
     where
-      go : (b : Bool) → ltb j way.count ≡ b → ToldBefore g w (if b then Turn.Behind (j + 1) else Turn.Any 0)
+      go : (b : Bool) → ltb j way.count ≡ b → ToldBefore g w (when b then Turn.Behind (j + 1) else Turn.Any 0)
       go true e = let l = ltb-true j way.count e in (omega (arith, k.0), (omega arith, (taken_more j k.1.1.0 (p l), k.1.1.1)))
       go false e = (omega arith, (taken_as j way.count (omega (arith, k.1.0, ltb-false j way.count e)) k.1.1.0, (k.1.1.1, λ m l. absurd (omega arith))))
   known_next (Turn.Any i) k p = (omega (arith, p.0), (k.1.0, (k.1.1.0, below_more (λ m. resolves g w m ≡ false) i k.1.1.1 p.1)))
@@ -113,13 +113,13 @@ module _ {d : ℕ} {s : List ℕ} {way : Way} (g : Goes d s way) (w : Value) whe
   unfolding ToldBefore Passes next_turn turns_left
   turns-fewer (Turn.Before j) k p = go (ltb j way.before) refl
     where
-      go : (b : Bool) → ltb j way.before ≡ b → turns_left (count_of (tree_of g)) way (if b then Turn.Before (j + 1) else Turn.Table) < way.before - j + (way.count + count_of (tree_of g) + 4)
+      go : (b : Bool) → ltb j way.before ≡ b → turns_left (count_of (tree_of g)) way (when b then Turn.Before (j + 1) else Turn.Table) < way.before - j + (way.count + count_of (tree_of g) + 4)
       go true e = omega (arith, ltb-true j way.before e)
       go false e = omega arith
   turns-fewer Turn.Table k p = omega (arith, before-count g)
   turns-fewer (Turn.Behind j) k p = go (ltb j way.count) refl
     where
-      go : (b : Bool) → ltb j way.count ≡ b → turns_left (count_of (tree_of g)) way (if b then Turn.Behind (j + 1) else Turn.Any 0) < way.count - j + (count_of (tree_of g) + 2)
+      go : (b : Bool) → ltb j way.count ≡ b → turns_left (count_of (tree_of g)) way (when b then Turn.Behind (j + 1) else Turn.Any 0) < way.count - j + (count_of (tree_of g) + 2)
       go true e = omega (arith, ltb-true j way.count e)
       go false e = omega arith
   turns-fewer (Turn.Any i) k p = omega (arith, p.0)
@@ -187,7 +187,7 @@ module _ {d : ℕ} {s : List ℕ} {way : Way} (g : Goes d s way) (w : Value) whe
       go none p = chosen_by (some u) none (table_taken u e (some u) f) p
       go (some i) p = chosen_by (some u) (some i) (table_taken u e (some u) f) p ∙ chosen-both (trials_for g w) u i ∙ pick (ltb u i) refl
         where
-          pick : (b : Bool) → ltb u i ≡ b → (if b then some u else some i) ≡ some u
+          pick : (b : Bool) → ltb u i ≡ b → (when b then some u else some i) ≡ some u
           pick true r = refl
           pick false r = ap some (omega (arith, later i p, ltb-false u i r))
 
@@ -200,12 +200,12 @@ module _ {d : ℕ} {s : List ℕ} {way : Way} (g : Goes d s way) (w : Value) whe
       go Found.Nothing e f = chosen_by none (some i) (table-untaken e) p
       go (Found.At u) e f = split (must_be_tried (get_or (trials_for g w) u no_trial).kind) (resolves g w u) refl refl
         where
-          not-sooner : (b : Bool) → (if b then Found.At u else Found.Nothing) ≡ Found.Nothing → b ≡ false
+          not-sooner : (b : Bool) → (when b then Found.At u else Found.Nothing) ≡ Found.Nothing → b ≡ false
           not-sooner false y = refl
           not-sooner true y = let z : ◌≡◌ {A = ℕ} 0 1 = cc in absurd (omega arith)
 
           here : take_variant (trials_for g w) (some u) ≡ some u → chosen_for g w ≡ some i
-          here z = chosen_by (some u) (some i) (table_taken u e (some u) z) p ∙ chosen-both (trials_for g w) u i ∙ ap (λ b. if b then some u else some i) (not-sooner (ltb u i) f)
+          here z = chosen_by (some u) (some i) (table_taken u e (some u) z) p ∙ chosen-both (trials_for g w) u i ∙ ap (λ b. when b then some u else some i) (not-sooner (ltb u i) f)
 
           split : (a b : Bool) → must_be_tried (get_or (trials_for g w) u no_trial).kind ≡ a → resolves g w u ≡ b → chosen_for g w ≡ some i
           split false b y z = here (take-untried (trials_for g w) u y)
@@ -248,7 +248,7 @@ module _ {d : ℕ} {s : List ℕ} {way : Way} (g : Goes d s way) (w : Value) whe
       go : (x : Found) → way.table ≡ x → sooner_than x i ≡ Found.At u → (way.table ≡ Found.At u) × (u < i)
       go (Found.At m) e h = pick (ltb m i) refl h
         where
-          pick : (b : Bool) → ltb m i ≡ b → (if b then Found.At m else Found.Nothing) ≡ Found.At u → (way.table ≡ Found.At u) × (u < i)
+          pick : (b : Bool) → ltb m i ≡ b → (when b then Found.At m else Found.Nothing) ≡ Found.At u → (way.table ≡ Found.At u) × (u < i)
           pick true p q = let y : m ≡ u = cc in (e ∙ q, omega (arith, ltb-true m i p))
           pick false p q = let y : ◌≡◌ {A = ℕ} 0 1 = cc in absurd (omega arith)
       go Found.Nothing e h = let y : ◌≡◌ {A = ℕ} 0 1 = cc in absurd (omega arith)
@@ -259,7 +259,7 @@ module _ {d : ℕ} {s : List ℕ} {way : Way} (g : Goes d s way) (w : Value) whe
   module _ (u i : ℕ) (b : Beaten g w u i) where
     over-named : take_variant (trials_for g w) (some u) ≡ some u → chosen_for g w ≡ some u
     unfolding choose position_of
-    over-named e = chosen_by (some u) (some i) (table_taken u b.table (some u) e) b.named ∙ chosen-both (trials_for g w) u i ∙ ap (λ x. if x then some u else some i) (lt-ltb u i b.behind)
+    over-named e = chosen_by (some u) (some i) (table_taken u b.table (some u) e) b.named ∙ chosen-both (trials_for g w) u i ∙ ap (λ x. when x then some u else some i) (lt-ltb u i b.behind)
 
     pub beaten-accepted : resolves g w u ≡ true → chosen_for g w ≡ some u
     beaten-accepted e = over-named (take-accepted (trials_for g w) u e)

@@ -1,7 +1,7 @@
 -- The turns of a union's variants: what a turn tries, what may be known when it comes, and what it says when it passes.
 use Rattle.std.specs.Prelude.{ℕ, ◌+◌, ◌-◌, ◌*◌, ◌^◌, ◌≤◌, ◌<◌, ◌≡◌, ◌⊎◌, List, [], Bool, false, not, ltb, get_or}
 use Rattle.std.proofs.Math.Option.{Option, none, some}
-use Rattle.base.specs.Base.{if◌then◌else◌, accepted}
+use Rattle.base.specs.Base.{when◌then◌else◌, accepted}
 use Rattle.number.specs.Number.{number_at}
 use Rattle.frame.specs.Tree.{Value, Schema}
 use Rattle.avro.specs.Union.{Trial, no_trial, find_schema_with_known_schemata, unnamed_kind, named_kind, named_variant, table_lookup, take_variant, takes}
@@ -139,9 +139,9 @@ module _ {depth : ℕ} {s : List ℕ} {way : Way} (g : Goes depth s way) (w : Va
 
 -- the turn that follows one that passed
 unfoldable pub next_turn : Way → Turn → Turn
-next_turn way (Turn.Before j) = if ltb j way.before then Turn.Before (j + 1) else Turn.Table
+next_turn way (Turn.Before j) = when ltb j way.before then Turn.Before (j + 1) else Turn.Table
 next_turn way Turn.Table = Turn.Behind way.before
-next_turn way (Turn.Behind j) = if ltb j way.count then Turn.Behind (j + 1) else Turn.Any 0
+next_turn way (Turn.Behind j) = when ltb j way.count then Turn.Behind (j + 1) else Turn.Any 0
 next_turn way (Turn.Any i) = Turn.Any (i + 1)
 
 -- how many turns there can still be, of a union with n variants
@@ -160,7 +160,7 @@ Within (Turn.Any i) = i < 2 ^ 63
 
 -- the table's position, where it comes before i
 unfoldable pub sooner_than : Found → ℕ → Found
-sooner_than (Found.At u) i = if ltb u i then Found.At u else Found.Nothing
+sooner_than (Found.At u) i = when ltb u i then Found.At u else Found.Nothing
 sooner_than Found.Nothing i = Found.Nothing
 
 -- the same in the turn of a named position i: a variant that stands in any other turn is the choice

@@ -7,7 +7,7 @@ use mathlib.Core.Bool.{Bool, true, false, true≢false}
 use native.Mathlib.Omega.{arith}
 use lib.Dec.{T}
 use lib.ListN.{length, get_or}
-use Rattle.base.specs.Base.{if◌then◌else◌}
+use Rattle.base.specs.Base.{when◌then◌else◌}
 use Rattle.text.specs.Text.{Text, same}
 use Rattle.text.proofs.TextLaws.{same_refl, same→≡}
 use Rattle.types.specs.Types.{next_place, position}
@@ -33,7 +33,7 @@ unfolding position next_place
 first-place s [] i e = let z : ◌≡◌ {A = ℕ} 0 1 = cc in absurd (omega arith)
 first-place s (t ∷ ts) i e = go (same t s) refl (position s ts) (first-place s ts) e
   where
-    go : (b : Bool) → same t s ≡ b → (o : Option ℕ) → ((k : ℕ) → o ≡ some k → First s ts k) → (if b then some 0 else next_place o) ≡ some i → First s (t ∷ ts) i
+    go : (b : Bool) → same t s ≡ b → (o : Option ℕ) → ((k : ℕ) → o ≡ some k → First s ts k) → (when b then some 0 else next_place o) ≡ some i → First s (t ∷ ts) i
     go true q o r f =
         let k : 0 ≡ i = cc in
         subst (λ (x : ℕ). First s (t ∷ ts) x) k (record { within = omega arith; there = equal t s q; before = λ j l. absurd (omega arith) })
@@ -48,7 +48,7 @@ unfolding position next_place
 nowhere s [] e j l = absurd (omega arith)
 nowhere s (t ∷ ts) e j l = go (same t s) refl (position s ts) (nowhere s ts) e j l
   where
-    go : (b : Bool) → same t s ≡ b → (o : Option ℕ) → (o ≡ none → (j : ℕ) → j < length ts → get_or ts j [] ≡ s → ⊥) → (if b then some 0 else next_place o) ≡ none
+    go : (b : Bool) → same t s ≡ b → (o : Option ℕ) → (o ≡ none → (j : ℕ) → j < length ts → get_or ts j [] ≡ s → ⊥) → (when b then some 0 else next_place o) ≡ none
         → (j : ℕ) → j < suc (length ts) → get_or (t ∷ ts) j [] ≡ s → ⊥
     go true q o r f j l = let z : ◌≡◌ {A = ℕ} 0 1 = cc in absurd (omega arith)
     go false q (some k) r f j l = let z : ◌≡◌ {A = ℕ} 0 1 = cc in absurd (omega arith)

@@ -7,7 +7,7 @@ use mathlib.Core.Bool.{Bool, true, false, ◌&&◌}
 use borrow.Author.Tests.{eq-eqb, ne_eqb, le-ltb}
 use lib.Dec.{leb}
 use lib.ListN.{length}
-use Rattle.base.specs.Base.{if◌then◌else◌, Result, ok, stop, after}
+use Rattle.base.specs.Base.{when◌then◌else◌, Result, ok, stop, after}
 use Rattle.utf8.specs.Utf8.{lead_of, step_of, run, is_utf8, lead_digits, digits_of, points_from, code_points, all_latin1}
 use Rattle.decimal.specs.Decimal.{too_short_for}
 use Rattle.frame.specs.Kind
@@ -42,12 +42,12 @@ pub six-first : resolve_decimal 4 0 none (Value.Octets Kind.String (0xc4 ∷ 0x8
 unfolding resolve_decimal fixed_too_short text_points point_bytes code_points is_utf8 run step_of lead_of lead_digits digits_of points_from kind_of octets after
 six-first = refl
 
-pub point_bytes-is : (ps : List ℕ) → point_bytes ps ≡ (if all_latin1 ps then ok ps else stop 6)
+pub point_bytes-is : (ps : List ℕ) → point_bytes ps ≡ (when all_latin1 ps then ok ps else stop 6)
 unfolding point_bytes all_latin1
 point_bytes-is [] = refl
 point_bytes-is (p ∷ ps) = rw (point_bytes-is ps) (go (leb p 255) (all_latin1 ps))
   where
-    go : (a b : Bool) → ◌≡◌ {A = Result (List ℕ)} (if a then after (if b then ok ps else stop 6) (λ s. ok (p ∷ s)) else stop 6) (if a && b then ok (p ∷ ps) else stop 6)
+    go : (a b : Bool) → ◌≡◌ {A = Result (List ℕ)} (when a then after (when b then ok ps else stop 6) (λ s. ok (p ∷ s)) else stop 6) (when a && b then ok (p ∷ ps) else stop 6)
     go true true = unfold after in refl
     go true false = unfold after in refl
     go false b = refl

@@ -7,7 +7,7 @@ use mathlib.Core.Bool.{Bool, true, false}
 use native.Mathlib.Decide.{dec_le}
 use native.Mathlib.Omega.{arith}
 use borrow.Author.Tests.{le-leb, lt-leb}
-use Rattle.base.specs.Base.{if◌then◌else◌}
+use Rattle.base.specs.Base.{when◌then◌else◌}
 use Rattle.utf8.specs.Utf8.{Start, Tail, lead_of, run, is_utf8, lead_digits, points_from, code_points}
 use Rattle.utf8.specs.Rfc3629.{In, Octets, end, utf8_1, utf8_2, utf8_3_e0, utf8_3_e1, utf8_3_ed, utf8_3_ee, utf8_4_f0, utf8_4_f1, utf8_4_f4, Encoded, empty, row_1, row_2, row_3, row_4}
 use Rattle.utf8.proofs.Rows.{lead-e0, lead-e1, lead-ed, lead-ee, lead-f0, lead-f1, lead-f4}
@@ -166,6 +166,6 @@ pub code_points→Encoded : (s ps : List ℕ) → code_points s ≡ some ps → 
 unfolding code_points
 code_points→Encoded s ps e = go (is_utf8 s) refl e
   where
-    go : (b : Bool) → is_utf8 s ≡ b → (if b then some (points_from Start 0 s) else none) ≡ some ps → Encoded ps s
+    go : (b : Bool) → is_utf8 s ≡ b → (when b then some (points_from Start 0 s) else none) ≡ some ps → Encoded ps s
     go true q e = let f : points_from Start 0 s ≡ ps = cc in subst (λ (qs : List ℕ). Encoded qs s) f (read (is_utf8→Octets s q))
     go false q e = let z : ◌≡◌ {A = ℕ} 0 1 = cc in absurd (omega arith)

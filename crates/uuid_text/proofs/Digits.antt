@@ -9,7 +9,7 @@ use native.Mathlib.Omega.{arith}
 use lib.Dec.{leb}
 use lib.ListN.{length, get_or, drop}
 use lib.Seq.{drop-cons, append_snoc}
-use Rattle.base.specs.Base.{if◌then◌else◌, within}
+use Rattle.base.specs.Base.{when◌then◌else◌, within}
 use Rattle.uuid_text.specs.Uuid.{hex_digit, hex_pair, hex_bytes}
 use Rattle.uuid_text.specs.Forms.{or_sixteen}
 
@@ -19,7 +19,7 @@ unfoldable pub Small : Option ℕ → Type 0
 Small none = Unit {0}
 Small (some v) = v < 16
 
-small-if : (b : Bool) (v : ℕ) (x : Option ℕ) → (b ≡ true → v < 16) → Small x → Small (if b then some v else x)
+small-if : (b : Bool) (v : ℕ) (x : Option ℕ) → (b ≡ true → v < 16) → Small x → Small (when b then some v else x)
 unfolding Small
 small-if true v x h s = h refl
 small-if false v x h s = s

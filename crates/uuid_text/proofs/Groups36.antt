@@ -7,7 +7,7 @@ use mathlib.Core.Bool.{Bool, true, false}
 use lib.Dec.{ltb}
 use lib.ListN.{length, get_or, take, drop, length-drop}
 use lib.Seq.{drop-cons, take_all}
-use Rattle.base.specs.Base.{if◌then◌else◌}
+use Rattle.base.specs.Base.{when◌then◌else◌}
 use Rattle.uuid_text.specs.Uuid.{without_hyphens}
 use Rattle.uuid_text.specs.Forms.{place}
 
@@ -39,7 +39,7 @@ pub place-below : (k : ℕ) → k < 32 → place k < 36
 unfolding place
 place-below k h = case4 (ltb k 8) (ltb k 12) (ltb k 16) (ltb k 20)
   where
-    case4 : (a b c d : Bool) → (if a then k else if b then k + 1 else if c then k + 2 else if d then k + 3 else k + 4) < 36
+    case4 : (a b c d : Bool) → (when a then k else when b then k + 1 else when c then k + 2 else when d then k + 3 else k + 4) < 36
     case4 true b c d = omega arith
     case4 false true c d = omega arith
     case4 false false true d = omega arith

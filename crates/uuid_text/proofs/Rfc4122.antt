@@ -10,7 +10,7 @@ use native.Mathlib.Omega.{arith}
 use lib.Dec.{T, ltb, eqb, eqb→eq}
 use lib.ListN.{length, get_or, take, drop, length-drop, length-append, take-append-drop}
 use lib.Seq.{length-take-le}
-use Rattle.base.specs.Base.{if◌then◌else◌}
+use Rattle.base.specs.Base.{when◌then◌else◌}
 use Rattle.number.specs.Number.{all_bytes}
 use Rattle.number.proofs.Laws.{all_bytes-head, all_bytes-tail, all_bytes-take, all_bytes-drop}
 use Rattle.text.specs.Text.{Text, ascii, same}
@@ -37,7 +37,7 @@ digit-read (capital {v} h) = hex_digit-some _ v (eqb→eq v _ (at 16 (read_as (a
 
 -- and a character that is read stands in a row at its value
 abbrev in_a_row : ℕ → ℕ → Bool
-in_a_row c v = if ltb v 16 then eqb (get_or (ascii "0123456789abcdef") v 0) c || eqb (get_or (ascii "0123456789ABCDEF") v 0) c else true
+in_a_row c v = when ltb v 16 then eqb (get_or (ascii "0123456789abcdef") v 0) c || eqb (get_or (ascii "0123456789ABCDEF") v 0) c else true
 
 all-in-a-row : T (below 0x67 (λ c. in_a_row c (or_sixteen (hex_digit c))))
 unfolding hex_digit or_sixteen ascii
@@ -83,7 +83,7 @@ abbrev Reads : (List ℕ → Type 0) → Option (List ℕ) → Type 0
 Reads P none = Unit {0}
 Reads P (some b) = P b
 
-reads-if : (P : List ℕ → Type 0) (t : Bool) (x y : Option (List ℕ)) → (t ≡ true → Reads P x) → Reads P y → Reads P (if t then x else y)
+reads-if : (P : List ℕ → Type 0) (t : Bool) (x y : Option (List ℕ)) → (t ≡ true → Reads P x) → Reads P y → Reads P (when t then x else y)
 reads-if P true x y p q = p refl
 reads-if P false x y p q = q
 

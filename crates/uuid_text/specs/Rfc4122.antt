@@ -1,6 +1,6 @@
 -- The grammar of UUID text, and the bytes that a text stands for: RFC 4122, section 3, and the four forms of docs/RULES.md. Last, what RFC 4122 writes.
 use Rattle.std.specs.Prelude.{ℕ, suc, ◌+◌, ◌*◌, ◌/◌, ◌%◌, ◌<◌, List, [], ◌∷◌, ◌++◌, leb, get_or, take, drop}
-use Rattle.base.specs.Base.{if◌then◌else◌}
+use Rattle.base.specs.Base.{when◌then◌else◌}
 use Rattle.text.specs.Text.{Text, ascii}
 
 -- hex_digit, in either case, and its value
@@ -30,7 +30,7 @@ pub data UuidText : Text → List ℕ → Type 0 where
 
 -- the character of a digit
 unfoldable pub small_digit : ℕ → ℕ
-small_digit v = if leb v 9 then v + 0x30 else v + 0x57
+small_digit v = when leb v 9 then v + 0x30 else v + 0x57
 
 -- two digits to a byte, the high digit first
 unfoldable pub hex_text : (ℕ → ℕ) → List ℕ → Text

@@ -1,16 +1,16 @@
 -- UUID text (docs/RULES.md, "Texts that become something else"; RFC 4122): its forms, and the 16 bytes that they stand for.
 use Rattle.std.specs.Prelude.{ℕ, ◌+◌, ◌-◌, ◌*◌, List, [], ◌∷◌, ◌++◌, Bool, true, false, ◌&&◌, eqb, length, take, drop, get_or, replicate}
 use Rattle.std.proofs.Math.Option.{Option, none, some}
-use Rattle.base.specs.Base.{if◌then◌else◌, within}
+use Rattle.base.specs.Base.{when◌then◌else◌, within}
 use Rattle.text.specs.Text.{Text, ascii, same}
 use Rattle.uuid_text.specs.declared.Parsed.{Parsed}
 
 -- a hexadecimal digit, in either case
 unfoldable pub hex_digit : ℕ → Option ℕ
 hex_digit c =
-    if within 0x30 0x39 c then some (c - 0x30) else
-    if within 0x61 0x66 c then some (c - 0x61 + 10) else
-    if within 0x41 0x46 c then some (c - 0x41 + 10) else
+    when within 0x30 0x39 c then some (c - 0x30) else
+    when within 0x61 0x66 c then some (c - 0x61 + 10) else
+    when within 0x41 0x46 c then some (c - 0x41 + 10) else
     none
 
 unfoldable pub hex_pair : Option ℕ → Option ℕ → Option (List ℕ) → Option (List ℕ)
@@ -35,23 +35,23 @@ without_hyphens t = take 8 t ++ take 4 (drop 9 t) ++ take 4 (drop 14 t) ++ take 
 
 -- the 36-character form of RFC 4122: 8, 4, 4, 4 and 12 digits with a hyphen between
 unfoldable pub hyphenated : Text → Option (List ℕ)
-hyphenated t = if has_hyphens t then hex_bytes (without_hyphens t) else none
+hyphenated t = when has_hyphens t then hex_bytes (without_hyphens t) else none
 
 -- 38 characters: the 36-character form in braces
 unfoldable pub in_braces : Text → Option (List ℕ)
-in_braces t = if eqb (get_or t 0 0) 0x7b && eqb (get_or t 37 0) 0x7d then hyphenated (take 36 (drop 1 t)) else none
+in_braces t = when eqb (get_or t 0 0) 0x7b && eqb (get_or t 37 0) 0x7d then hyphenated (take 36 (drop 1 t)) else none
 
 -- 45 characters: the 36-character form after `urn:uuid:` in small letters
 unfoldable pub after_urn : Text → Option (List ℕ)
-after_urn t = if same (take 9 t) (ascii "urn:uuid:") then hyphenated (drop 9 t) else none
+after_urn t = when same (take 9 t) (ascii "urn:uuid:") then hyphenated (drop 9 t) else none
 
 -- 32 digits, the 36-character form, that form in braces, or after `urn:uuid:`
 unfoldable pub uuid_of_text : Text → Option (List ℕ)
 uuid_of_text t =
-    if eqb (length t) 32 then hex_bytes t else
-    if eqb (length t) 36 then hyphenated t else
-    if eqb (length t) 38 then in_braces t else
-    if eqb (length t) 45 then after_urn t else
+    when eqb (length t) 32 then hex_bytes t else
+    when eqb (length t) 36 then hyphenated t else
+    when eqb (length t) 38 then in_braces t else
+    when eqb (length t) 45 then after_urn t else
     none
 
 -- the parser's answer: ok and the bytes, or not ok and zeros

@@ -9,7 +9,7 @@ use lib.Dec.{leb, eqb}
 use lib.ListN.{length, drop, get_or, length-drop}
 use lib.Seq.{drop-drop, get_or-drop}
 use borrow.Author.Tests.{leb-true, leb-false, le-leb, lt-leb, ne_eqb, eqb-false}
-use Rattle.base.specs.Base.{if◌then◌else◌}
+use Rattle.base.specs.Base.{when◌then◌else◌}
 use Rattle.number.specs.Number.{number_at}
 use Rattle.number.proofs.Laws.{number_at-one}
 use Rattle.text.specs.Read.{Read, ◌>>=◌, read_number}
@@ -38,7 +38,7 @@ pub named-itself : (k : ℕ) → 11 ≤ k → k < 14 → named_kind k ≡ some k
 unfolding named_kind
 named-itself k l h = rw (ne_eqb k 14 (omega arith), ne_eqb k 15 (omega arith), ne_eqb k 25 (omega arith)) (go (eqb k 11) (eqb k 12) (eqb k 13) refl refl refl)
   where
-    go : (a b c : Bool) → eqb k 11 ≡ a → eqb k 12 ≡ b → eqb k 13 ≡ c → (if a || b || c then some k else (if eqb k 9 then some 11 else none)) ≡ some k
+    go : (a b c : Bool) → eqb k 11 ≡ a → eqb k 12 ≡ b → eqb k 13 ≡ c → (when a || b || c then some k else (when eqb k 9 then some 11 else none)) ≡ some k
     go true b c p q r = refl
     go false true c p q r = refl
     go false false true p q r = refl
@@ -69,7 +69,7 @@ pub unnamed-named : (k : ℕ) → 11 ≤ k → k < 14 → unnamed_kind k ≡ non
 unfolding unnamed_kind
 unnamed-named k l h = rw (ne_eqb k 14 (omega arith), ne_eqb k 15 (omega arith), ne_eqb k 16 (omega arith), ne_eqb k 17 (omega arith), lt-leb 18 k (omega arith), ne_eqb k 25 (omega arith)) (go (eqb k 11) (eqb k 12) (eqb k 13) refl refl refl)
   where
-    go : (a b c : Bool) → eqb k 11 ≡ a → eqb k 12 ≡ b → eqb k 13 ≡ c → ◌≡◌ {A = Option ℕ} (if a || b || c then none else some k) none
+    go : (a b c : Bool) → eqb k 11 ≡ a → eqb k 12 ≡ b → eqb k 13 ≡ c → ◌≡◌ {A = Option ℕ} (when a || b || c then none else some k) none
     go true b c p q r = refl
     go false true c p q r = refl
     go false false true p q r = refl
@@ -238,7 +238,7 @@ form-not : (s : List ℕ) (f : UuidForm) (u : List ℕ) → read_uuid_form s ≡
 unfolding read_uuid_form ◌>>=◌ schema_to_base_schemakind
 form-not s f u e n m = go (eqb (get_or s 0 0) 2) refl
   where
-    got : (b : Bool) → eqb (get_or s 0 0) 2 ≡ b → read_uuid_form s ≡ (if b then (read_number 2 (drop 1 s) >>= (λ q. some (UuidForm.fixed q.0, q.1))) else none)
+    got : (b : Bool) → eqb (get_or s 0 0) 2 ≡ b → read_uuid_form s ≡ (when b then (read_number 2 (drop 1 s) >>= (λ q. some (UuidForm.fixed q.0, q.1))) else none)
     got b g = let h = form-there s f u e in rw (read_number-some 1 s h, number_at-one s 0 h, ne_eqb _ _ n, ne_eqb _ _ m, g)
 
     go : (b : Bool) → eqb (get_or s 0 0) 2 ≡ b → schema_to_base_schemakind (Schema.Uuid f) ≡ 13

@@ -9,7 +9,7 @@ use lib.Dec.{eqb}
 use lib.ListN.{length, take, drop, set, get_or, length-drop, length-append, length-set}
 use lib.Seq.{drop-drop, get_or-drop, drop-set-lt, take-suc-set, take_at}
 use borrow.Author.Tests.{eq-eqb, ne_eqb}
-use Rattle.base.specs.Base.{if◌then◌else◌}
+use Rattle.base.specs.Base.{when◌then◌else◌}
 use Rattle.number.specs.Number.{number_at, bytes_of, written}
 use Rattle.number.proofs.Laws.{length-bytes_of, length-written}
 use Rattle.text.specs.Measured.{Reads}
@@ -68,16 +68,16 @@ module _ (k : ℕ) (s : List ℕ) (left at : ℕ) (w : Looking k s left at) wher
     unfolding lead_at
     lead-position = ap (λ (x : ℕ × ℕ). x.1) lead.1.0 ∙ ap (λ l. number_at l 0 2) (drop-drop 1 at s)
 
-    lookup-here : lookup_read k (read_list read_lead s) ≡ (if eqb (get_or s at 0) k then some (number_at s (at + 1) 2) else lookup_kind k next.others)
+    lookup-here : lookup_read k (read_list read_lead s) ≡ (when eqb (get_or s at 0) k then some (number_at s (at + 1) 2) else lookup_kind k next.others)
     unfolding lookup_kind
     lookup-here =
         w.tells ∙ ap (lookup_kind k) next.cons
-        ∙ ap (λ x. if eqb x k then some next.item.1 else lookup_kind k next.others) lead-kind
-        ∙ ap (λ x. if eqb (get_or s at 0) k then some x else lookup_kind k next.others) lead-position
+        ∙ ap (λ x. when eqb x k then some next.item.1 else lookup_kind k next.others) lead-kind
+        ∙ ap (λ x. when eqb (get_or s at 0) k then some x else lookup_kind k next.others) lead-position
 
     pub looking-hit : get_or s at 0 ≡ k → (p : ℕ) → p ≡ number_at s (at + 1) 2 → Found.At p ≡ found_of (lookup_read k (read_list read_lead s))
     unfolding found_of
-    looking-hit e p f = sym (ap found_of (lookup-here ∙ ap (λ b. if b then some (number_at s (at + 1) 2) else lookup_kind k next.others) (eq-eqb _ _ e) ∙ ap some (sym f)))
+    looking-hit e p f = sym (ap found_of (lookup-here ∙ ap (λ b. when b then some (number_at s (at + 1) 2) else lookup_kind k next.others) (eq-eqb _ _ e) ∙ ap some (sym f)))
 
     pub looking-step : (get_or s at 0 ≡ k → ⊥) → Looking k s (left - 1) (at + 3)
     looking-step n = record {
@@ -85,7 +85,7 @@ module _ (k : ℕ) (s : List ℕ) (left at : ℕ) (w : Looking k s left at) wher
       entries = next.others;
       rest = w.rest;
       reads = ap (read_many read_lead (left - 1)) (sym (drop-drop 3 at s) ∙ sym lead.1.1) ∙ next.reads;
-      tells = lookup-here ∙ ap (λ b. if b then some (number_at s (at + 1) 2) else lookup_kind k next.others) (ne_eqb _ _ n);
+      tells = lookup-here ∙ ap (λ b. when b then some (number_at s (at + 1) 2) else lookup_kind k next.others) (ne_eqb _ _ n);
     }
 
 -- ---- a Union's index

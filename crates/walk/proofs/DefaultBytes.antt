@@ -9,7 +9,7 @@ use lib.ListN.{length, get_or, take, drop, length-drop, take-append-drop}
 use lib.Seq.{get_or-drop}
 use lib.Ieee.Fits.{and_l}
 use borrow.Author.Tests.{eq-eqb, ne_eqb}
-use Rattle.base.specs.Base.{if◌then◌else◌, ok, stop, after}
+use Rattle.base.specs.Base.{when◌then◌else◌, ok, stop, after}
 use Rattle.number.specs.Number.{all_bytes, big_endian, number_at}
 use Rattle.number.proofs.Laws.{all_bytes-drop}
 use Rattle.text.specs.Read.{read_bytes, read_number, ◌>>=◌}
@@ -124,7 +124,7 @@ pub null-value : (n : List ℕ) → n ≡ 0 ∷ [] → Reads (read_value 1 n)
 null-value n q = reads-some (Value.Scalar Kind.Null 0) [] (ap (read_value 1) q ∙ null-reads)
 
 abbrev starts : Schema → Value → Outcome
-starts x d = if eqb (schema_kind x) Kind.Null then ok (Value.Scalar Kind.Null 0) else resolve x d
+starts x d = when eqb (schema_kind x) Kind.Null then ok (Value.Scalar Kind.Null 0) else resolve x d
 
 start-union : (x : Schema) (xs : Variants) (ks : List (ℕ × ℕ)) (ns : List ℕ) (d : Value) → start_default (Schema.Union (variant x xs) ks ns) d ≡ after (starts x d) (λ r. ok (Value.Union 0 r))
 unfolding resolve first
@@ -162,12 +162,12 @@ module _ (ds : ℕ) (s d : List ℕ) (rd : ReadyDefault ds s d) (e : get_or s 0 
   unfolding after
   default-null n q h =
       default-open
-      ∙ ap (λ b. after (if b then ok (Value.Scalar Kind.Null 0) else resolve fv.lead rd.value) (λ r. peeled_bytes tree r)) (eq-eqb (schema_kind fv.lead) 0 (lead-kind ∙ h))
+      ∙ ap (λ b. after (when b then ok (Value.Scalar Kind.Null 0) else resolve fv.lead rd.value) (λ r. peeled_bytes tree r)) (eq-eqb (schema_kind fv.lead) 0 (lead-kind ∙ h))
       ∙ sym (both_some peeled_bytes _ _ tree (Value.Scalar Kind.Null 0) rd.schema.rest [] rd.schema.reads (ap (read_value 1) q ∙ null-reads))
 
   module _ (f : get_or s 3 0 ≡ 0 → ⊥) where
     starts_is : starts fv.lead rd.value ≡ resolve fv.lead rd.value
-    starts_is = ap (λ b. if b then ok (Value.Scalar Kind.Null 0) else resolve fv.lead rd.value) (ne_eqb (schema_kind fv.lead) 0 (λ q. f (sym lead-kind ∙ q)))
+    starts_is = ap (λ b. when b then ok (Value.Scalar Kind.Null 0) else resolve fv.lead rd.value) (ne_eqb (schema_kind fv.lead) 0 (λ q. f (sym lead-kind ∙ q)))
 
     trial-is : on_both node_bytes (read_schema (ds - 1) (drop 3 s)) (read_value 16 d) ≡ encoded (resolve fv.lead rd.value)
     unfolding node_bytes

@@ -2,7 +2,7 @@
 use mathlib.Core.Path.{◌≡◌, refl, sym, ◌∙◌}
 use mathlib.Core.Bool.{Bool, true, false, ◌||◌}
 use mathlib.Core.Option.{none, some}
-use Rattle.base.specs.Base.{if◌then◌else◌}
+use Rattle.base.specs.Base.{when◌then◌else◌}
 use Rattle.text.specs.Text.{ascii, same}
 use Rattle.scalar.specs.Conversion.{parse_special_float}
 use Rattle.bits.specs.Special.{special_of}
@@ -11,7 +11,7 @@ use Rattle.bits.specs.declared.SpecialFloat.TheVariants.{Bits, NotOne}
 use Rattle.bits.proofs.parse_special_float.Goals as goal
 
 abbrev chain : Bool → Bool → Bool → Bool → Bool → SpecialFloat
-chain a b c d e = special_of (if a then some 0x7fc00000 else if b || c then some 0x7f800000 else if d || e then some 0xff800000 else none)
+chain a b c d e = special_of (when a then some 0x7fc00000 else when b || c then some 0x7f800000 else when d || e then some 0xff800000 else none)
 
 case1 : (a b c d e : Bool) → a ≡ true → chain a b c d e ≡ Bits 0x7fc0_0000
 case1 a b c d e p = rw p refl

@@ -5,7 +5,7 @@ use lib.IntN.{ℤ}
 use mir.Syntax.{w32, w64}
 use mir.ValLaws.{to_z-of_z}
 use borrow.Author.Tests.{eq-eqb, ne_eqb}
-use Rattle.base.specs.Base.{if◌then◌else◌, ok, stop, after}
+use Rattle.base.specs.Base.{when◌then◌else◌, ok, stop, after}
 use Rattle.scalar.specs.Scalars.{time_of}
 use Rattle.scalar.specs.declared.Scalar.{Scalar}
 use Rattle.scalar.specs.declared.Scalar.TheVariants.{Date, TimestampMillis, TimestampMicros, TimestampNanos}
@@ -23,7 +23,7 @@ returns-then-duration-ne0 c =
     let a = c.args in
     let z = c.in-Date.z in
     sym (ap (λ (s : Scalar). sum_of (sum s a.duration)) c.in-Date.is
-    ∙ ap (λ (t : Bool). sum_of (if t then after (date_sum z a.duration) (λ r. ok (Date r)) else stop 26)) (ne_eqb a.duration.millis.0 0 c.if-duration-ne0.true))
+    ∙ ap (λ (t : Bool). sum_of (when t then after (date_sum z a.duration) (λ r. ok (Date r)) else stop 26)) (ne_eqb a.duration.millis.0 0 c.if-duration-ne0.true))
 
 pub returns-in-On : goal.returns-in-On
 returns-in-On c =
@@ -34,7 +34,7 @@ returns-in-On c =
     ap (λ (x : ℤ). To (Date x)) (to_z-of_z w32 c.in-On.n (record { sfits = search rules }))
     ∙ sum-on Date (date_sum z d) c.in-On.n (sym e ∙ c.in-On.is)
     ∙ sym (ap (λ (s : Scalar). sum_of (sum s d)) c.in-Date.is
-    ∙ ap (λ (t : Bool). sum_of (if t then after (date_sum z d) (λ r. ok (Date r)) else stop 26)) (eq-eqb d.millis.0 0 c.if-duration-ne0.false))
+    ∙ ap (λ (t : Bool). sum_of (when t then after (date_sum z d) (λ r. ok (Date r)) else stop 26)) (eq-eqb d.millis.0 0 c.if-duration-ne0.false))
 
 pub returns-in-Refused : goal.returns-in-Refused
 returns-in-Refused c =
@@ -44,7 +44,7 @@ returns-in-Refused c =
     let e = c.add_date.ensures ∙ ap (λ (x : ℤ). dated_of (date_sum x d)) (to_z-of_z w32 z (record { sfits = search rules })) in
     no-sum-on Date (date_sum z d) c.in-Refused.e (sym e ∙ c.in-Refused.is)
     ∙ sym (ap (λ (s : Scalar). sum_of (sum s d)) c.in-Date.is
-    ∙ ap (λ (t : Bool). sum_of (if t then after (date_sum z d) (λ r. ok (Date r)) else stop 26)) (eq-eqb d.millis.0 0 c.if-duration-ne0.false))
+    ∙ ap (λ (t : Bool). sum_of (when t then after (date_sum z d) (λ r. ok (Date r)) else stop 26)) (eq-eqb d.millis.0 0 c.if-duration-ne0.false))
 
 pub returns-in-TimestampMillis : goal.returns-in-TimestampMillis
 unfolding time_of

@@ -1,7 +1,7 @@
 -- `finishes::rank` meets its contract.
 use Rattle.finishes.specs.Finish.{rank}
 use borrow.Author.Tests.{lt-ltb, le-ltb}
-use Rattle.base.specs.Base.{if◌then◌else◌}
+use Rattle.base.specs.Base.{when◌then◌else◌}
 use Prim.Native.Nat.{◌+◌, ◌-◌, ◌^◌}
 use mathlib.Core.Path.{sym, ap}
 use mathlib.Core.Bool.{Bool}
@@ -9,8 +9,8 @@ use Rattle.finishes.proofs.rank.Goals as goal
 
 pub returns-then-b-lt9223372036854775808 : goal.returns-then-b-lt9223372036854775808
 unfolding rank
-returns-then-b-lt9223372036854775808 c = let x = c.args.b in sym (ap (λ (t : Bool). if t then x + 2 ^ 63 else x - 2 ^ 63) (lt-ltb x (2 ^ 63) c.if-b-lt9223372036854775808.true))
+returns-then-b-lt9223372036854775808 c = let x = c.args.b in sym (ap (λ (t : Bool). when t then x + 2 ^ 63 else x - 2 ^ 63) (lt-ltb x (2 ^ 63) c.if-b-lt9223372036854775808.true))
 
 pub returns : goal.returns
 unfolding rank
-returns c = let x = c.args.b in sym (ap (λ (t : Bool). if t then x + 2 ^ 63 else x - 2 ^ 63) (le-ltb x (2 ^ 63) c.if-b-lt9223372036854775808.false))
+returns c = let x = c.args.b in sym (ap (λ (t : Bool). when t then x + 2 ^ 63 else x - 2 ^ 63) (le-ltb x (2 ^ 63) c.if-b-lt9223372036854775808.false))

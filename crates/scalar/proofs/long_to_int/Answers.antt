@@ -1,7 +1,7 @@
 -- `scalar::long_to_int` meets its contract: the two cases of `narrowed`.
 use mathlib.Core.Path.{sym, ap, ◌∙◌}
 use mathlib.Core.Bool.{Bool}
-use Rattle.base.specs.Base.{if◌then◌else◌}
+use Rattle.base.specs.Base.{when◌then◌else◌}
 use Rattle.scalar.specs.Conversion.{int_of_long}
 use Rattle.scalar.specs.Scalars.{narrowed}
 use Rattle.scalar.specs.declared.Narrowed.TheVariants.{To as ToInt, OutOfRange as NoInt}
@@ -11,10 +11,10 @@ pub returns-then-in_int : goal.returns-then-in_int
 unfolding narrowed int_of_long
 returns-then-in_int c =
     let b = c.args.b in
-    sym (ap (λ (t : Bool). if t then ToInt (int_of_long b) else NoInt) (sym c.in_int.ensures ∙ c.if-in_int.true))
+    sym (ap (λ (t : Bool). when t then ToInt (int_of_long b) else NoInt) (sym c.in_int.ensures ∙ c.if-in_int.true))
 
 pub returns-else-in_int : goal.returns-else-in_int
 unfolding narrowed int_of_long
 returns-else-in_int c =
     let b = c.args.b in
-    sym (ap (λ (t : Bool). if t then ToInt (int_of_long b) else NoInt) (sym c.in_int.ensures ∙ c.if-in_int.false))
+    sym (ap (λ (t : Bool). when t then ToInt (int_of_long b) else NoInt) (sym c.in_int.ensures ∙ c.if-in_int.false))

@@ -1,7 +1,7 @@
 -- `value::value_frame` meets its contract. Assumes nothing.
 use mathlib.Core.Path.{sym, ap, ◌∙◌}
 use mathlib.Core.Bool.{Bool}
-use Rattle.base.specs.Base.{if◌then◌else◌}
+use Rattle.base.specs.Base.{when◌then◌else◌}
 use Rattle.frame.specs.ValueFrame.{read_value, decode_value}
 use Rattle.frame.specs.Sound.{keys_rise}
 use Rattle.frame.specs.Checks.{value_verdict}
@@ -26,11 +26,11 @@ returns-then-n-s c =
 pub returns-then-sound : goal.returns-then-sound
 unfolding value_verdict decode_value
 returns-then-sound c =
-    ap (λ (b : Bool). if b then Sound else Unsound) (sym c.if-sound.true)
+    ap (λ (b : Bool). when b then Sound else Unsound) (sym c.if-sound.true)
     ∙ verdict-whole (read_value 16) keys_rise c.args.s.now _ _ c.if-s-gt65535.false (rw c.in-Of.is at c.value_check.ensures) c.if-n-s.false
 
 pub returns : goal.returns
 unfolding value_verdict decode_value
 returns c =
-    ap (λ (b : Bool). if b then Sound else Unsound) (sym c.if-sound.false)
+    ap (λ (b : Bool). when b then Sound else Unsound) (sym c.if-sound.false)
     ∙ verdict-whole (read_value 16) keys_rise c.args.s.now _ _ c.if-s-gt65535.false (rw c.in-Of.is at c.value_check.ensures) c.if-n-s.false

@@ -4,7 +4,7 @@ use mir.Syntax.{w32, w64}
 use mir.ValLaws.{to_z-of_z}
 use mathlib.Core.Bool.{Bool}
 use borrow.Author.Tests.{lt-ltb, le-ltb}
-use Rattle.base.specs.Base.{if◌then◌else◌}
+use Rattle.base.specs.Base.{when◌then◌else◌}
 use Rattle.scalar.specs.Scalars.{time_of, time_cast}
 use Rattle.scalar.specs.declared.Cast.TheVariants.{To, Unsuited}
 use Rattle.scalar.proofs.Scalars.{no-integer, wide_fits, wide_back}
@@ -14,4 +14,4 @@ pub returns-then-k-lt18-2 : goal.returns-then-k-lt18-2
 returns-then-k-lt18-2 c =
     let k = c.args.k in
     let z = c.in-Long.n in
-    sym (ap (time_cast k) c.in-Long.is ∙ ap (λ (t : Bool). if t then Unsuited else To (time_of k z)) (lt-ltb k 0x12 c.if-k-lt18-2.true))
+    sym (ap (time_cast k) c.in-Long.is ∙ ap (λ (t : Bool). when t then Unsuited else To (time_of k z)) (lt-ltb k 0x12 c.if-k-lt18-2.true))

@@ -1,7 +1,7 @@
 -- `schema::whole::schema_frame` meets its contract. Assumes nothing.
 use mathlib.Core.Path.{sym, ap, ◌∙◌}
 use mathlib.Core.Bool.{Bool}
-use Rattle.base.specs.Base.{if◌then◌else◌}
+use Rattle.base.specs.Base.{when◌then◌else◌}
 use Rattle.frame.specs.SchemaFrame.{read_schema, decode_schema}
 use Rattle.frame.specs.Sound.{schema_sound}
 use Rattle.frame.specs.Checks.{schema_verdict}
@@ -26,11 +26,11 @@ returns-then-n-s c =
 pub returns-then-sound : goal.returns-then-sound
 unfolding schema_verdict decode_schema
 returns-then-sound c =
-    ap (λ (b : Bool). if b then Sound else Unsound) (sym c.if-sound.true)
+    ap (λ (b : Bool). when b then Sound else Unsound) (sym c.if-sound.true)
     ∙ verdict-whole (read_schema 16) schema_sound c.args.s.now _ _ c.if-s-gt65535.false (rw c.in-Of.is at c.schema_check.ensures) c.if-n-s.false
 
 pub returns : goal.returns
 unfolding schema_verdict decode_schema
 returns c =
-    ap (λ (b : Bool). if b then Sound else Unsound) (sym c.if-sound.false)
+    ap (λ (b : Bool). when b then Sound else Unsound) (sym c.if-sound.false)
     ∙ verdict-whole (read_schema 16) schema_sound c.args.s.now _ _ c.if-s-gt65535.false (rw c.in-Of.is at c.schema_check.ensures) c.if-n-s.false
