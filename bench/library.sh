@@ -5,21 +5,18 @@ root="$(cd "$(dirname "${BASH_SOURCE[0]}")/.." && pwd)"
 work="$(mktemp -d)"
 trap 'rm -rf "$work"' EXIT
 
-# make_library NAME EXPORTS CRATE...: proves the crates and the exports, and writes $work/target/staticlib/libNAME.a.
+# make_library NAME EXPORTS CRATE...: proves the crates and the exports, and writes $work/crates/NAME/out/libNAME.a.
 make_library() {
     name=$1
     exports=$2
     shift 2
     mkdir -p "$work/crates/$name/src"
     for c in "$@"; do
-        cp -r "$root/crates/$c" "$work/crates/$c"
+        # with what `rt` kept in the crate's folder out
+        cp -a "$root/crates/$c" "$work/crates/$c"
         grep "^$c:" "$root/crates.txt" >> "$work/crates.txt"
     done
     cp "$exports" "$work/crates/$name/src/lib.rt"
-    echo "$name: $*" >> "$work/crates.txt"
-    if [ -d "$root/target/rlib" ]; then
-        mkdir -p "$work/target"
-        cp -r "$root/target/rlib" "$root/target/stamp" "$work/target"
-    fi
-    (cd "$work" && rt staticlib "$name" > "$work/log" 2>&1) || { tail -5 "$work/log"; exit 1; }
+    echo "$name staticlib: $*" >> "$work/crates.txt"
+    (cd "$work/crates/$name" && rt lib > "$work/log" 2>&1) || { tail -5 "$work/log"; exit 1; }
 }

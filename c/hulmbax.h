@@ -1,7 +1,7 @@
 /* The C interface of Hulmbax: brings an Avro record to a reader schema, names the current finish of each
  * boat where crews corrected some, and has a calendar over Avro's dates and timestamps.
  *
- * Link with libhulmbax.a, which `rt staticlib hulmbax` writes to target/staticlib/ (x86-64 Linux).
+ * Link with libhulmbax.a, which c/archive writes to target/staticlib/ (x86-64 Linux).
  * docs/RULES.md at the top of the repository has every rule: the bytes of a frame, the order of the
  * checks, and what each pair of kinds gives.
  */

@@ -41,13 +41,13 @@ build_crate() {
 # build_program, build_archive: Hulmbax's side. Where RESOLVE or HULMBAX_ARCHIVE names a built file,
 # that one is taken.
 build_program() {
-  [ -n "${RESOLVE:-}" ] || run_rt check resolve
+  [ -n "${RESOLVE:-}" ] || run_script tests/program resolve
   RESOLVE=$(realpath "${RESOLVE:-$root/target/bin/resolve}")
   [ -x "$RESOLVE" ] || stop "no program $RESOLVE"
 }
 
 build_archive() {
-  [ -n "${HULMBAX_ARCHIVE:-}" ] || run_rt staticlib hulmbax
+  [ -n "${HULMBAX_ARCHIVE:-}" ] || run_script c/archive
   HULMBAX_ARCHIVE=$(realpath "${HULMBAX_ARCHIVE:-$root/target/staticlib/libhulmbax.a}")
   export HULMBAX_ARCHIVE
   [ -e "$HULMBAX_ARCHIVE" ] || stop "no archive $HULMBAX_ARCHIVE"
@@ -66,8 +66,9 @@ rename_before() {
   export HULMBAX_BEFORE
 }
 
-run_rt() {
+# run_script SCRIPT WORDS...: a script of the repository that has rt build something.
+run_script() {
   command -v rt >/dev/null || stop "rt is not on the path"
   mkdir -p "$out"
-  (cd "$root" && rt "$@") >"$out/rt.log" 2>&1 || { tail -5 "$out/rt.log" >&2; stop "rt $* failed: $out/rt.log"; }
+  (cd "$root" && "$@") >"$out/rt.log" 2>&1 || { tail -5 "$out/rt.log" >&2; stop "$* failed: $out/rt.log"; }
 }

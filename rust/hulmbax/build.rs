@@ -1,15 +1,24 @@
-// Finds libhulmbax.a, or has `rt` prove and build it, and tells cargo to link it.
+// Finds libhulmbax.a, or has c/archive prove and build it, and tells cargo to link it.
 use std::env;
 use std::fs::{self, OpenOptions};
-use std::io::{self, ErrorKind, Write};
+use std::io::{self, Write};
 use std::path::{Path, PathBuf};
 use std::process::{exit, Command};
 use std::time::{Instant, SystemTime};
 
 const ARCHIVE: &str = "libhulmbax.a";
 
-/// What `rt staticlib hulmbax` reads, from the top of the repository.
-const SOURCES: [&str; 2] = ["crates.txt", "crates"];
+/// The script that builds it, from the top of the repository.
+const SCRIPT: &str = "c/archive";
+
+/// Where it leaves it.
+const BUILT: &str = "target/staticlib/libhulmbax.a";
+
+/// What it reads of a crate. What it writes is in the crate's folder too, beside these.
+const SOURCES: [&str; 3] = ["src", "specs", "proofs"];
+
+/// Its exit status where there is no `rt` on the path.
+const NO_RT: i32 = 127;
 
 fn main() {
     println!("cargo:rerun-if-changed=build.rs");
@@ -51,18 +60,32 @@ fn prebuilt(path: &Path) -> PathBuf {
     archive
 }
 
-// The archive of the repository, which `rt` builds unless it is newer than every source.
+// The archive of the repository, which the script builds unless it is newer than every source.
 fn built(repository: &Path) -> PathBuf {
-    let sources = SOURCES.map(|source| repository.join(source));
+    let sources = match sources(repository) {
+        Ok(sources) => sources,
+        Err(e) => stop(&format!("the folder of the crates could not be read: {e}")),
+    };
     for source in &sources {
         println!("cargo:rerun-if-changed={}", source.display());
     }
-    let archive = repository.join("target/staticlib").join(ARCHIVE);
+    let archive = repository.join(BUILT);
     let is_new = |made| sources.iter().all(|source| is_older(source, made));
     if !modified(&archive).is_ok_and(is_new) {
         prove(repository);
     }
     archive
+}
+
+// The script, the list of the crates, and the folders that it reads of each.
+fn sources(repository: &Path) -> io::Result<Vec<PathBuf>> {
+    let mut sources = vec![repository.join(SCRIPT), repository.join("crates.txt")];
+    for entry in fs::read_dir(repository.join("crates"))? {
+        let folder = entry?.path();
+        let parts = SOURCES.map(|part| folder.join(part));
+        sources.extend(parts.into_iter().filter(|part| part.is_dir()));
+    }
+    Ok(sources)
 }
 
 fn modified(path: &Path) -> io::Result<SystemTime> {
@@ -85,29 +108,29 @@ fn is_older(path: &Path, time: SystemTime) -> bool {
     older(path).unwrap_or(false)
 }
 
-// Runs `rt staticlib hulmbax` in the repository. What it prints goes where cargo keeps it: it is
-// shown by `cargo build -vv`, and after a failure.
+// Runs the script. What it prints goes where cargo keeps it: it is shown by `cargo build -vv`, and
+// after a failure.
 fn prove(repository: &Path) {
-    announce("`rt staticlib hulmbax` runs; the first time it proves every crate, for minutes");
+    announce(&format!(
+        "{SCRIPT} runs; the first time it proves every crate, for minutes"
+    ));
     let start = Instant::now();
-    let run = Command::new("rt")
-        .args(["staticlib", "hulmbax"])
-        .current_dir(repository)
+    let run = Command::new(repository.join(SCRIPT))
         .stdout(io::stderr())
         .status();
     match run {
-        Err(e) if e.kind() == ErrorKind::NotFound => stop(&format!(
+        Err(e) => stop(&format!("{SCRIPT} could not be started: {e}")),
+        Ok(status) if status.code() == Some(NO_RT) => stop(&format!(
             "there is no program `rt` on the path to build {ARCHIVE} with. Install the Rattle \
              toolchain, or set HULMBAX_LIB to a built {ARCHIVE} or to the folder that holds it"
         )),
-        Err(e) => stop(&format!("`rt` could not be started: {e}")),
         Ok(status) if !status.success() => stop(&format!(
-            "`rt staticlib hulmbax` failed in {}: {status}",
+            "{SCRIPT} failed in {}: {status}",
             repository.display()
         )),
         Ok(_) => println!(
-            "cargo:warning=`rt staticlib hulmbax` built {ARCHIVE} in {} s; the first time it \
-             proves every crate, for minutes. HULMBAX_LIB takes a built one",
+            "cargo:warning={SCRIPT} built {ARCHIVE} in {} s; the first time it proves every \
+             crate, for minutes. HULMBAX_LIB takes a built one",
             start.elapsed().as_secs()
         ),
     }
