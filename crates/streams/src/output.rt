@@ -53,7 +53,8 @@ pub fn put_hex(rt: &impl CanWrite, ok: bool, n: u64, width: usize) -> bool
     put(rt, ok, &room[..k])
 }
 
-// The words that a program was started with, its name among them.
+// The words that a program was started with, its name among them: as many as there are before the first that is not there. No contract of the
+// language says which words there are, so none is promised of their number; what follows from it is `usage`.
 pub fn words(rt: &impl Env) -> usize {
     let mut none = [0u8; 0];
     for i in 0..usize::MAX {
