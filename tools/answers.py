@@ -303,6 +303,37 @@ def aligned(answers, needs, named):
     return pairs
 
 
+def loop_fact(decl, kind, label, variables, changed):
+    """What a loop keeps, or its measure: the parameters stand by position, all as the loop begins and then those that it changes."""
+    body, unfolding = "\n".join(decl).split("\n", 1)[1], ""
+    while body.startswith("unfolding"):
+        line, body = body.split("\n", 1)
+        unfolding += line + "\n"
+    left, right = body.split(" =", 1)
+    given = left.split()[1:]
+    paths = [("l.initial." if c else "l.") + v for v, c in zip(variables, changed)] + ["l." + v for v, c in zip(variables, changed) if c]
+    if len(given) != len(paths):
+        return None
+    to = {g: p for g, p in zip(given, paths) if g != "_"}
+    if to:
+        names = "|".join(re.escape(g) for g in sorted(to, key=len, reverse=True))
+        right = re.sub(rf"(?<![\w'.′₀-])({names})(?![\w'₀-])", lambda m: to[m[1]], right)
+    return f"abbrev pub {kind}-{label} : goal.{kind}-{label}\n{unfolding}{kind}-{label} l ={right.rstrip()}\n"
+
+
+def parts_of(decl, name):
+    """Of an answer: its lines of `unfolding`, its parameters and its term. The statement may go over several lines."""
+    lines, k = "\n".join(decl).rstrip().split("\n"), 1
+    while k < len(lines) and lines[k][:1].isspace():
+        k += 1
+    unfolding = []
+    while k < len(lines) and lines[k].startswith("unfolding"):
+        unfolding.append(lines[k])
+        k += 1
+    m = re.match(rf"{re.escape(name)}(.*?) =(.*)$", "\n".join(lines[k:]), re.S)
+    return m and (unfolding, [p for p in m[1].split() if p != "κs"], m[2])
+
+
 def turn(path, crate, func, d):
     text = open(path, encoding="utf-8").read()
     head, decls = split(text)
@@ -333,47 +364,22 @@ def turn(path, crate, func, d):
     used.add(name_of(close))
     loopnames = {norm(old): (new, vs, ch) for ((old, new), vs), ch in zip(loops, d["changed"])}
     for a in invs:
-        decl = "\n".join(named[a])
         kind = "invariant" if a.startswith("invariant") else "decreases"
         old = a.split("-", 1)[1]
         if norm(old) not in loopnames:
             return f"no loop {old}"
         new, vs, ch = loopnames[norm(old)]
-        body = decl.split("\n", 1)[1]
-        unf = ""
-        while body.startswith("unfolding"):
-            u, body = body.split("\n", 1)
-            unf += u + "\n"
-        lhs, rhs = body.split(" =", 1)
-        ps = lhs.split()[1:]
-        changed = [v for v, c in zip(vs, ch) if c]
-        paths = [("l.initial." if c else "l.") + v for v, c in zip(vs, ch)] + ["l." + v for v in changed]
-        if len(ps) != len(paths):
-            return f"{a}: {len(ps)} parameters for {paths}"
-        sub = dict(zip(ps, paths))
-        sub.pop("_", None)
-        toks = re.compile(r"(?<![\w'.′₀-])(" + "|".join(re.escape(p) for p in sorted(sub, key=len, reverse=True)) + r")(?![\w'₀-])") if sub else None
-        rhs = toks.sub(lambda m: sub[m[1]], rhs) if toks else rhs
-        inv_body.append(f"abbrev pub {kind}-{new} : goal.{kind}-{new}\n{unf}{kind}-{new} l ={rhs.rstrip()}\n")
+        fact = loop_fact(named[a], kind, new, vs, ch)
+        if fact is None:
+            return f"{a}: other parameters than the loop has variables"
+        inv_body.append(fact)
     for a, (old, new) in pairs:
         if a not in named:
             return f"no answer {a}"
-        decl = "\n".join(named[a]).rstrip()
-        lines = decl.split("\n")
-        # The statement may go over several lines.
-        k = 1
-        while k < len(lines) and lines[k][:1].isspace():
-            k += 1
-        unf = []
-        while k < len(lines) and lines[k].startswith("unfolding"):
-            unf.append(lines[k])
-            k += 1
-        body = "\n".join(lines[k:])
-        m = re.match(rf"{re.escape(a)}(.*?) =(.*)$", body, re.S)
-        if not m:
+        found = parts_of(named[a], a)
+        if found is None:
             return f"no body of {a}"
-        params, rhs = m[1].split(), m[2]
-        params = [p for p in params if p != "κs"]
+        unf, params, rhs = found
         if rhs.strip() in ("search rules", "search (rules)") and not unf:
             continue
         rhs = flatten(rhs, labels, params[0] if params else "c")
@@ -440,7 +446,6 @@ def cycle(path, crate, func, members):
             rhs = re.sub(rf"\ba\.{'1[.]' * k}0(?!\d)", "l." + params[fn][k], rhs)
         invs.append(f"abbrev pub decreases-{fn} : goal.decreases-{fn}\ndecreases-{fn} l ={rhs.rstrip()}\n")
         used.add(mu)
-        at = re.search(rf"([\w-]+)-lts\.spec ", term)
         spec = next(m for m in re.finditer(r"([\w-]+)[.]spec\b", term) if norm(re.sub("-lts$", "", m[1])) == fn.lower())
         parts = groups(term[spec.end():])[3:]
         loops, needs = d["loops"], d["needs"]
@@ -449,16 +454,10 @@ def cycle(path, crate, func, members):
             inv, dec = parts[0], parts[1]
             parts = parts[2:]
             for kind, n in (("invariant", inv), ("decreases", dec)):
-                b = "\n".join(named[n]).split("\n", 1)[1]
-                lhs, r = b.split(" =", 1)
-                ps = lhs.split()[1:]
-                paths = [("l.initial." if c else "l.") + v for v, c in zip(vs, ch)] + ["l." + v for v, c in zip(vs, ch) if c]
-                if len(ps) != len(paths):
-                    return f"{n}: {len(ps)} parameters for {paths}"
-                sub = {a: b2 for a, b2 in zip(ps, paths) if a != "_"}
-                toks = re.compile(r"(?<![\w'.′₀-])(" + "|".join(re.escape(q) for q in sorted(sub, key=len, reverse=True)) + r")(?![\w'₀-])")
-                r = toks.sub(lambda m: sub[m[1]], r)
-                invs.append(f"abbrev pub {kind}-{stem}{new} : goal.{kind}-{stem}{new}\n{kind}-{stem}{new} l ={r.rstrip()}\n")
+                fact = loop_fact(named[n], kind, stem + new, vs, ch)
+                if fact is None:
+                    return f"{n}: other parameters than the loop has variables"
+                invs.append(fact)
                 used.add(n)
         if len(parts) != len(needs):
             return f"{fn}: {len(parts)} answers for {len(needs)} goals"
@@ -472,19 +471,10 @@ def cycle(path, crate, func, members):
             if name not in named:
                 return f"{fn}: no answer {a}"
             used.add(name)
-            lines = "\n".join(named[name]).rstrip().split("\n")
-            k = 1
-            while k < len(lines) and lines[k][:1].isspace():
-                k += 1
-            unf = []
-            while k < len(lines) and lines[k].startswith("unfolding"):
-                unf.append(lines[k])
-                k += 1
-            m = re.match(rf"{re.escape(name)}(.*?) =(.*)$", "\n".join(lines[k:]), re.S)
-            ps = [q for q in m[1].split() if q != "κs"]
-            if m[2].strip() == "search rules" and not unf:
+            unf, ps, rhs = parts_of(named[name], name)
+            if rhs.strip() == "search rules" and not unf:
                 continue
-            rhs = flatten(m[2], labels, ps[1] if len(ps) > 1 else "c")
+            rhs = flatten(rhs, labels, ps[1] if len(ps) > 1 else "c")
             own = next((v for f, v in CLAUSES.items() if f.startswith(crate + "::") and f.endswith("::" + fn)), None)
             if own and norm(new).startswith("returns"):
                 rhs = recorded(rhs, own, ps[2:])
