@@ -12,60 +12,61 @@
 
 ghost use Rattle.std.specs.Prelude.{◌*◌, ◌≤◌, length};
 
-use buffer::Answer;
-use calendar::{Civil, Dated};
-use streams::tally::{Tally, compared, passed_over};
-use streams::{CanRead, CanWrite, tally};
+use calendar::Civil;
+use lines::input::Reader;
+use streams::output::Output;
+use streams::tally::Tally;
+use streams::{CanRead, CanWrite};
 
 // A line that is no call is answered with the number 0, which no refusal has.
 const NO_CALL: u8 = 0;
 
-// ---- the calls: the answer's bytes go to the front of out
+// ---- the calls: the answer's bytes go to the front of out; how many they are, or the refusal's number
 
-fn civil(s: &[u8], out: &mut [u8]) -> Answer
+fn civil(s: &[u8], out: &mut [u8]) -> Result<usize, u8>
     requires { 12 ≤ length out.old }
 {
     if s.len() != 4 {
-        return Answer::Refused(NO_CALL);
+        return Err(NO_CALL);
     }
-    let c = calendar::civil_of(rounding::of_twos32(number::read4(s, 0)));
-    number::put4(out, 0, rounding::to_twos32(c.year));
+    let c = calendar::civil_of(number::read4(s, 0).cast_signed());
+    number::put4(out, 0, c.year.cast_unsigned());
     number::put4(out, 4, c.month);
     number::put4(out, 8, c.day);
-    Answer::Accepted(12)
+    Ok(12)
 }
 
-fn date(s: &[u8], out: &mut [u8]) -> Answer
+fn date(s: &[u8], out: &mut [u8]) -> Result<usize, u8>
     requires { 12 ≤ length out.old }
 {
     if s.len() != 12 {
-        return Answer::Refused(NO_CALL);
+        return Err(NO_CALL);
     }
     let c = Civil {
-        year: rounding::of_twos32(number::read4(s, 0)),
+        year: number::read4(s, 0).cast_signed(),
         month: number::read4(s, 4),
         day: number::read4(s, 8),
     };
     match calendar::date_of(c) {
-        Dated::On(z) => {
-            number::put4(out, 0, rounding::to_twos32(z));
-            Answer::Accepted(4)
+        Ok(z) => {
+            number::put4(out, 0, z.cast_unsigned());
+            Ok(4)
         }
-        Dated::Refused(e) => Answer::Refused(e),
+        Err(e) => Err(e.number()),
     }
 }
 
 // A signed answer: a number below 100, or a refusal's negated.
-fn signed(code: i32) -> Answer {
-    let b = rounding::to_twos32(code);
+fn signed(code: i32) -> Result<usize, u8> {
+    let b = code.cast_unsigned();
     if b < 100 {
-        return Answer::Accepted(b as usize);
+        return Ok(b as usize);
     }
     let e = 0xffff_ffff - b;
     if e < 99 {
-        return Answer::Refused((e + 1) as u8);
+        return Err((e + 1) as u8);
     }
-    Answer::Refused(NO_CALL)
+    Err(NO_CALL)
 }
 
 // Where the frame ends whose length stands before it; 0 where there is none.
@@ -82,56 +83,46 @@ fn frame_end(s: &[u8]) -> usize
     e
 }
 
-fn add(s: &[u8], out: &mut [u8]) -> Answer {
+fn add(s: &[u8], out: &mut [u8]) -> Result<usize, u8> {
     let e = frame_end(s);
     if e < 1 {
-        return Answer::Refused(NO_CALL);
+        return Err(NO_CALL);
     }
     signed(instants::add(&s[1..e], &s[e..], out))
 }
 
 // Whether the window that opens with a frame holds an instant: the closing, with its length before it, and the instant are in s.
-fn holds_from(opening: &[u8], s: &[u8]) -> Answer {
+fn holds_from(opening: &[u8], s: &[u8]) -> Result<usize, u8> {
     let e = frame_end(s);
     if e < 1 {
-        return Answer::Refused(NO_CALL);
+        return Err(NO_CALL);
     }
     signed(instants::holds(opening, &s[1..e], &s[e..]))
 }
 
-fn holds(s: &[u8], out: &mut [u8]) -> Answer
+fn holds(s: &[u8], out: &mut [u8]) -> Result<usize, u8>
     requires { 12 ≤ length out.old }
 {
     let e = frame_end(s);
     if e < 1 {
-        return Answer::Refused(NO_CALL);
+        return Err(NO_CALL);
     }
-    match holds_from(&s[1..e], &s[e..]) {
-        Answer::Accepted(n) => {
-            out[0] = (n % 256) as u8;
-            Answer::Accepted(1)
-        }
-        Answer::Refused(e) => Answer::Refused(e),
-    }
+    let n = holds_from(&s[1..e], &s[e..])?;
+    out[0] = (n % 256) as u8;
+    Ok(1)
 }
 
 // The call that a letter stands for.
-fn called(letter: u8, s: &[u8], out: &mut [u8]) -> Answer
+fn called(letter: u8, s: &[u8], out: &mut [u8]) -> Result<usize, u8>
     requires { 12 ≤ length out.old }
 {
-    if letter == b'c' {
-        return civil(s, out);
+    match letter {
+        b'c' => civil(s, out),
+        b'd' => date(s, out),
+        b'a' => add(s, out),
+        b'w' => holds(s, out),
+        _ => Err(NO_CALL),
     }
-    if letter == b'd' {
-        return date(s, out);
-    }
-    if letter == b'a' {
-        return add(s, out);
-    }
-    if letter == b'w' {
-        return holds(s, out);
-    }
-    Answer::Refused(NO_CALL)
 }
 
 // ---- lines
@@ -163,13 +154,13 @@ fn refused(number: u8, out: &mut [u8]) -> usize
     n + 1
 }
 
-fn told(r: Answer, bytes: &[u8], out: &mut [u8]) -> usize
+fn told(r: Result<usize, u8>, bytes: &[u8], out: &mut [u8]) -> usize
     requires { (2 * length bytes.now ≤ length out.old) × (3 ≤ length out.old) }
     ensures { result ≤ length out.old }
 {
     match r {
-        Answer::Accepted(n) => digits(bytes, n, out),
-        Answer::Refused(e) => refused(e, out),
+        Ok(n) => digits(bytes, n, out),
+        Err(e) => refused(e, out),
     }
 }
 
@@ -184,54 +175,55 @@ fn is_expected(letter: u8, s: &[u8], expected: &[u8]) -> bool {
 
 // The place of the first space from the third character on; past the line where there is none.
 fn space(line: &[u8]) -> usize
-    ensures { 2 ≤ result }
+    ensures { (2 ≤ result) × (2 ≤ length line.now → result ≤ length line.now) }
 {
-    let mut i: usize = 2;
-    while i < line.len() {
+    for i in 2..line.len() {
         if line[i] == b' ' {
             return i;
         }
-        i += 1;
     }
-    i
+    line.len().max(2)
 }
 
 // A line: two characters stand before the call's bytes, and a space behind them.
-fn counted(rt: &impl CanWrite, t: Tally, line: &[u8], room: &mut [u8]) -> Tally {
+fn counted(t: Tally, line: &[u8], room: &mut [u8], out: &mut Output<'_, impl CanWrite>) -> Tally {
     let n = line.len();
     if n < 1 {
-        return compared(rt, t, false);
+        return t.compared(false, out);
     }
     if line[0] == b'#' {
-        return passed_over(t);
+        return t.passed_over();
+    }
+    if n < 2 {
+        return t.compared(false, out);
     }
     let e = space(line);
     if n <= e {
-        return compared(rt, t, false);
+        return t.compared(false, out);
     }
     let k = lines::frame(&line[2..e], room);
     let after = e + 1;
-    compared(rt, t, is_expected(line[0], &room[..k], &line[after..]))
+    t.compared(is_expected(line[0], &room[..k], &line[after..]), out)
 }
 
-// A proved loop has to end, and nothing says that the input does. So the turns are counted down from a number that no run uses up.
-fn all(
-    rt: &(impl CanRead + CanWrite),
+// The list, up to its end or the first write that fails.
+// A proved loop has to end, and nothing says that the input does. So there are as many turns as no run uses up.
+fn all<R: CanRead + CanWrite>(
+    rt: &R,
     block: &mut [u8],
     line: &mut [u8],
     room: &mut [u8],
+    out: &mut Output<'_, R>,
 ) -> Tally {
-    let mut r = lines::input::start();
-    let mut t = tally::start();
-    let mut turns = u64::MAX;
-    while turns > 0 {
+    let mut r = Reader::start();
+    let mut t = Tally::start();
+    for _ in 0..u64::MAX {
         r = streams::input::next(rt, r, block, line);
-        if !r.whole || !t.ok {
+        if !r.whole || !out.ok {
             return t;
         }
         let n = r.filled;
-        t = counted(rt, t, &line[0..n], room);
-        turns -= 1;
+        t = counted(t, &line[0..n], room, out);
     }
     t
 }
@@ -247,6 +239,7 @@ fn main(rt: HostRuntime) {
     let mut block = [0u8; 4096];
     let mut line = [0u8; 4096];
     let mut room = [0u8; 2048];
-    let t = all(&rt, &mut block, &mut line, &mut room);
-    tally::report(&rt, t, b" answers");
+    let mut out = Output::new(&rt);
+    let t = all(&rt, &mut block, &mut line, &mut room, &mut out);
+    t.report(b" answers", &mut out);
 }

@@ -13,8 +13,6 @@ use Rattle.hex_text.specs.Hex.{decimal}
 use Rattle.buffer.specs.After.{buffer_after}
 use Rattle.hulmbax.specs.Answer.{answer, workspace_size}
 use Rattle.hulmbax.specs.Entry.{resolved_of}
-use Rattle.hulmbax.specs.declared.Resolved.{Resolved}
-use Rattle.hulmbax.specs.declared.Resolved.TheVariants.{Accepted, Refused}
 use Rattle.hulmbax.proofs.EntryLaws.{answer-is}
 use Rattle.hulmbax.proofs.Told.{ok-is, stop_is}
 use Rattle.hulmbax.proofs.Bounds.{Small, answer-small, answer-refusal-small, answer-accepted-small}
@@ -27,13 +25,13 @@ module _ (s v o w : List ℕ) (lo : length o ≡ 65535) (lw : workspace_size ≤
   same : answer s v (length o) (length w) ≡ answer s v 65535 workspace_size
   same = answer-is s v (length o) (length w) lw ∙ sym (answer-is s v (length o) workspace_size (omega arith)) ∙ ap (λ (k : ℕ). answer s v k workspace_size) lo
 
-  module _ (r : Resolved) (o' : List ℕ) (n : ℕ) (e : r ≡ resolved_of (answer s v (length o) (length w))) where
-    pub accepted-is : r ≡ Accepted n → o' ≡ buffer_after (answer s v (length o) (length w)) o → (answer s v 65535 workspace_size ≡ ok (take n o')) × ((length (take n o') ≡ n) × (n ≤ 65535))
+  module _ (r : Result ℕ) (o' : List ℕ) (n : ℕ) (e : r ≡ resolved_of (answer s v (length o) (length w))) where
+    pub accepted-is : r ≡ ok n → o' ≡ buffer_after (answer s v (length o) (length w)) o → (answer s v 65535 workspace_size ≡ ok (take n o')) × ((length (take n o') ≡ n) × (n ≤ 65535))
     accepted-is p f =
         let i : (answer s v (length o) (length w) ≡ ok (take n o')) × (length (take n o') ≡ n) = ok-is (answer s v (length o) (length w)) o o' n (sym p ∙ e) f in
         (sym same ∙ i.0, (i.1, omega (arith, i.1, (answer-accepted-small s v (length o) (length w) (take n o') i.0).1)))
 
-    pub refused-is : r ≡ Refused n → (answer s v 65535 workspace_size ≡ stop n) × (n ≤ 28)
+    pub refused-is : r ≡ stop n → (answer s v 65535 workspace_size ≡ stop n) × (n ≤ 28)
     refused-is p =
         let i : answer s v (length o) (length w) ≡ stop n = stop_is (answer s v (length o) (length w)) n (sym p ∙ e) in
         (sym same ∙ i, ⊎_elim (λ h. omega (arith, h)) (λ h. omega (arith, h)) (answer-refusal-small s v (length o) (length w) n i).1)

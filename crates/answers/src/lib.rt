@@ -5,8 +5,6 @@ ghost use Rattle.std.specs.Prelude.{◌≡◌, ◌++◌, ◌≤◌, length, drop
 ghost use Rattle.hulmbax.specs.Answer.{answer, workspace_size};
 ghost use Rattle.lines.specs.Line.{answer_line};
 
-use hulmbax::Resolved;
-
 // Writes it to the front of out; its length.
 pub fn answer(
     schema: &[u8],
@@ -20,7 +18,7 @@ pub fn answer(
     ensures out_after { out.new ≡ answer_line (answer schema.now value.now 65535 workspace_size) ++ drop (length (answer_line (answer schema.now value.now 65535 workspace_size))) out.old }
 {
     match calls::call(schema, value, res, workspace) {
-        Resolved::Accepted(n) => lines::accepted(&res[..n], out),
-        Resolved::Refused(e) => lines::refused(e, out),
+        Ok(n) => lines::accepted(&res[..n], out),
+        Err(e) => lines::refused(e.number(), out),
     }
 }

@@ -1,49 +1,67 @@
-// The numbers of what stops a record, in checking order (docs/RULES.md, "What stops a record"), under the C header's names.
-pub const WORKSPACE_TOO_SHORT: u8 = 1;
+// What stops a record, a list of finishes or a sum of the calendar, under the C header's names.
+ghost use Rattle.std.specs.Prelude.{◌≡◌};
+ghost use Rattle.base.specs.Refusal.{number_of};
 
-pub const SCHEMA_NO_FRAME: u8 = 2;
+// In checking order (docs/RULES.md, "What stops a record").
+#[derive(Clone, Copy, Debug, PartialEq, Eq)]
+pub enum Refusal {
+    WorkspaceTooShort,
+    SchemaNoFrame,
+    SchemaUnsound,
+    DefaultTooLong,
+    RecordNoFrame,
+    Unsuited,
+    LongOutsideInt,
+    ItemOutsideByte,
+    NotUtf8,
+    SizeDiffers,
+    UuidWrong,
+    ScaleExceedsPrecision,
+    FixedTooSmall,
+    BytesTooFew,
+    SymbolUnknown,
+    NoVariant,
+    FieldMissing,
+    ResultTooLong,
+    // Of lists of finishes (docs/RULES.md, "Corrected finishes").
+    TooManyFrames,
+    NoFinish,
+    // The calendar's (docs/RULES.md, "Dates and instants").
+    MillisOnDate,
+    OutsideCalendar,
+    // In the place of 6, where a Float or a Double would be a NaN (docs/RULES.md, "Casts").
+    NotANumber,
+}
 
-pub const SCHEMA_UNSOUND: u8 = 3;
-
-pub const DEFAULT_TOO_LONG: u8 = 4;
-
-pub const RECORD_NO_FRAME: u8 = 5;
-
-pub const UNSUITED: u8 = 6;
-
-pub const LONG_OUTSIDE_INT: u8 = 7;
-
-pub const ITEM_OUTSIDE_BYTE: u8 = 8;
-
-pub const NOT_UTF8: u8 = 9;
-
-pub const SIZE_DIFFERS: u8 = 10;
-
-pub const UUID_WRONG: u8 = 11;
-
-pub const SCALE_EXCEEDS_PRECISION: u8 = 12;
-
-pub const FIXED_TOO_SMALL: u8 = 13;
-
-pub const BYTES_TOO_FEW: u8 = 14;
-
-pub const SYMBOL_UNKNOWN: u8 = 15;
-
-pub const NO_VARIANT: u8 = 16;
-
-pub const FIELD_MISSING: u8 = 17;
-
-pub const RESULT_TOO_LONG: u8 = 18;
-
-// Those of lists of finishes (docs/RULES.md, "Corrected finishes").
-pub const TOO_MANY_FRAMES: u8 = 23;
-
-pub const NO_FINISH: u8 = 24;
-
-// The calendar's (docs/RULES.md, "Dates and instants").
-pub const MILLIS_ON_DATE: u8 = 26;
-
-pub const OUTSIDE_CALENDAR: u8 = 27;
-
-// In the place of 6, where a Float or a Double would be a NaN (docs/RULES.md, "Casts").
-pub const NOT_A_NUMBER: u8 = 28;
+impl Refusal {
+    // The number that the rules and the C header give it.
+    pub fn number(self) -> u8
+        ensures { result ≡ number_of self }
+    {
+        match self {
+            Refusal::WorkspaceTooShort => 1,
+            Refusal::SchemaNoFrame => 2,
+            Refusal::SchemaUnsound => 3,
+            Refusal::DefaultTooLong => 4,
+            Refusal::RecordNoFrame => 5,
+            Refusal::Unsuited => 6,
+            Refusal::LongOutsideInt => 7,
+            Refusal::ItemOutsideByte => 8,
+            Refusal::NotUtf8 => 9,
+            Refusal::SizeDiffers => 10,
+            Refusal::UuidWrong => 11,
+            Refusal::ScaleExceedsPrecision => 12,
+            Refusal::FixedTooSmall => 13,
+            Refusal::BytesTooFew => 14,
+            Refusal::SymbolUnknown => 15,
+            Refusal::NoVariant => 16,
+            Refusal::FieldMissing => 17,
+            Refusal::ResultTooLong => 18,
+            Refusal::TooManyFrames => 23,
+            Refusal::NoFinish => 24,
+            Refusal::MillisOnDate => 26,
+            Refusal::OutsideCalendar => 27,
+            Refusal::NotANumber => 28,
+        }
+    }
+}

@@ -8,25 +8,18 @@ ghost use Rattle.bits.specs.Special.{special_of};
 
 use scalar::Scalar;
 
-// The Float's bits that a text stands for, if it is one of the five.
-#[derive(Clone, Copy)]
-pub enum SpecialFloat {
-    Bits(u32),
-    NotOne,
-}
-
 // A number's content as a Float, from content to content. The kind is an argument so that where it is
 // known, as in each caller below, only its own way is compiled.
 fn float_content(k: u8, b: u64) -> u64
     ensures { result ≡ cast_content (float_cast (of_content k b)) }
 {
-    Scalar::of_content(k, b).to_float().content()
+    scalar::content_or_zero(Scalar::of_content(k, b).to_float())
 }
 
 pub fn int_to_long(b: u32) -> u64
     ensures { result ≡ long_of_int b }
 {
-    Scalar::of_int(b).to_long().content()
+    scalar::content_or_zero(Scalar::of_int(b).to_long())
 }
 
 pub fn int_to_float(b: u32) -> u32
@@ -38,7 +31,7 @@ pub fn int_to_float(b: u32) -> u32
 pub fn int_to_double(b: u32) -> u64
     ensures { result ≡ double_of_int b }
 {
-    Scalar::of_int(b).to_double().content()
+    scalar::content_or_zero(Scalar::of_int(b).to_double())
 }
 
 pub fn long_to_float(b: u64) -> u32
@@ -50,7 +43,7 @@ pub fn long_to_float(b: u64) -> u32
 pub fn long_to_double(b: u64) -> u64
     ensures { result ≡ double_of_long b }
 {
-    Scalar::of_long(b).to_double().content()
+    scalar::content_or_zero(Scalar::of_long(b).to_double())
 }
 
 pub fn float_to_float(b: u32) -> u32
@@ -62,7 +55,7 @@ pub fn float_to_float(b: u32) -> u32
 pub fn float_to_double(b: u32) -> u64
     ensures { result ≡ double_of_float b }
 {
-    Scalar::of_float(b).to_double().content()
+    scalar::content_or_zero(Scalar::of_float(b).to_double())
 }
 
 pub fn double_to_float(b: u64) -> u32
@@ -74,27 +67,20 @@ pub fn double_to_float(b: u64) -> u32
 pub fn double_to_double(b: u64) -> u64
     ensures { result ≡ b }
 {
-    Scalar::of_double(b).to_double().content()
+    scalar::content_or_zero(Scalar::of_double(b).to_double())
 }
 
-// The five texts of a Float that is no number.
-pub fn parse_special_float(s: &[u8]) -> SpecialFloat
+// The bits of the Float that a text stands for, if it is one of the five of no number.
+pub fn parse_special_float(s: &[u8]) -> Option<u32>
     ensures { result ≡ special_of (parse_special_float s.now) }
 {
     if text::same(s, b"NaN") {
-        return SpecialFloat::Bits(0x7fc0_0000);
+        Some(0x7fc0_0000)
+    } else if text::same(s, b"INF") || text::same(s, b"Infinity") {
+        Some(0x7f80_0000)
+    } else if text::same(s, b"-INF") || text::same(s, b"-Infinity") {
+        Some(0xff80_0000)
+    } else {
+        None
     }
-    if text::same(s, b"INF") {
-        return SpecialFloat::Bits(0x7f80_0000);
-    }
-    if text::same(s, b"Infinity") {
-        return SpecialFloat::Bits(0x7f80_0000);
-    }
-    if text::same(s, b"-INF") {
-        return SpecialFloat::Bits(0xff80_0000);
-    }
-    if text::same(s, b"-Infinity") {
-        return SpecialFloat::Bits(0xff80_0000);
-    }
-    SpecialFloat::NotOne
 }

@@ -3,19 +3,25 @@ use Prim.Native.Nat.{ℕ, ◌+◌, ◌-◌, ◌/◌, ◌%◌, ◌≤◌, ◌<◌
 use mathlib.Core.Path.{◌≡◌, refl, sym, ap, ◌∙◌, subst}
 use mathlib.Core.List.{List, [], ◌∷◌, ◌++◌, append_assoc, append-nil}
 use mathlib.Core.Option.{none, some}
+use mathlib.Core.Logic.{◌⊎◌, inl, inr}
+use native.Mathlib.Nat.{eq-or-lt_of_le}
 use native.Mathlib.Omega.{arith}
 use lib.ListN.{length, get_or, drop, length-drop, length-append}
 use lib.Seq.{drop-drop}
 use borrow.Author.Tests.{le-leb, lt-leb}
+use Rattle.std.specs.Prelude as std
+use Rattle.std.specs.Prelude.{Ok, Err}
 use Rattle.base.specs.Base.{Result, ok, stop, after}
+use Rattle.base.specs.Refusal.{number_of}
+use Rattle.base.specs.declared.refusal.Refusal.{Refusal}
 use Rattle.number.specs.Number.{number_at}
 use Rattle.text.specs.Read.{Read, ◌>>=◌, read_number}
 use Rattle.text.specs.Measured.{Reads}
 use Rattle.text.proofs.ReadLaws.{read_number-some}
-use Rattle.scalar.specs.Scalars.{content_of}
+use Rattle.scalar.specs.Scalars.{content_of, refusal_of}
 use Rattle.scalar.specs.declared.Scalar.{Scalar}
-use Rattle.scalar.specs.declared.Cast.{Cast}
-use Rattle.scalar.specs.declared.Cast.TheVariants.{To, Unsuited, OutOfRange}
+use Rattle.scalar.specs.declared.CastError.{CastError}
+use Rattle.scalar.specs.declared.CastError.TheVariants.{Unsuited, OutOfRange}
 use Rattle.frame.specs.Kind
 use Rattle.frame.specs.Tree.{Value, kind_of, number, items, peel}
 use Rattle.frame.specs.Readers.{read_many, read_list}
@@ -25,51 +31,52 @@ use Rattle.frame.proofs.Reading.{bind-some, map_read, reads-some, reads-eq, not-
 use Rattle.frame.proofs.Counting.{many-suc, many-zero, list-many, reads-list}
 use Rattle.frame.proofs.ValueNodes.{value-content}
 use Rattle.buffer.specs.Built.{Built, Wrote}
-use Rattle.buffer.specs.declared.Answer.{Answer}
-use Rattle.buffer.specs.declared.Answer.TheVariants as A
 use Rattle.types.specs.Types.{resolve_int, in_byte, int_byte, try_u8, byte_items, resolve_bytes}
 use Rattle.types.specs.Contract.{encoded, on_read, value_of, cast_outcome}
 use Rattle.types.proofs.Contents.{bytes-content, array-content}
 use Rattle.types.proofs.NodeLaws.{wrote-ok, wrote-stop}
 use Rattle.types.proofs.PartLaws.{encode-counted, built-counted}
 use Rattle.value.proofs.NodeLaws.{array_of}
-use Rattle.bytewise.specs.Items.{byte_of, list_bytes, items_as_bytes}
-use Rattle.bytewise.specs.declared.Byte.{Byte}
-use Rattle.bytewise.specs.declared.Byte.TheVariants.{Is, Refused}
+use Rattle.bytewise.specs.Items.{list_bytes, items_as_bytes}
+
+-- ---- the kinds Bytes and String
+
+pub six-or-seven : (k : ℕ) → 6 ≤ k → k ≤ 7 → (k ≡ 6) ⊎ (k ≡ 7)
+six-or-seven k h l = go (eq-or-lt_of_le h)
+  where
+    go : (6 ≡ k) ⊎ (6 < k) → (k ≡ 6) ⊎ (k ≡ 7)
+    go (inl e) = inl (sym e)
+    go (inr g) = inr (omega arith)
 
 -- ---- a byte
 
-pub is_byte : (n : ℕ) → n ≤ 255 → Is n ≡ byte_of (in_byte n)
-unfolding in_byte byte_of
+pub is_byte : (n : ℕ) → n ≤ 255 → ok n ≡ in_byte n
+unfolding in_byte
 is_byte n h = rw (le-leb n 255 h)
 
-pub past-byte : (n : ℕ) → 255 < n → Refused 8 ≡ byte_of (in_byte n)
-unfolding in_byte byte_of
+pub past-byte : (n : ℕ) → 255 < n → stop 8 ≡ in_byte n
+unfolding in_byte
 past-byte n h = rw (lt-leb n 255 h)
 
 -- ---- a value as an Int
 
-module _ (w : Value) (c : Cast) (e : cast_outcome c ≡ resolve_int w) where
-  as_byte : int_byte w ≡ after (cast_outcome c) (λ n. in_byte (number n))
-  unfolding int_byte
-  as_byte = ap (λ x. after x (λ n. in_byte (number n))) (sym e)
+as_byte : (w : Value) (c : std.Result Scalar CastError) → cast_outcome c ≡ resolve_int w → int_byte w ≡ after (cast_outcome c) (λ n. in_byte (number n))
+unfolding int_byte
+as_byte w c e = ap (λ x. after x (λ n. in_byte (number n))) (sym e)
 
-  pub int_is : (s : Scalar) → c ≡ To s → int_byte w ≡ in_byte (content_of s)
-  unfolding after cast_outcome value_of number
-  int_is s h = as_byte ∙ ap (λ (x : Cast). after (cast_outcome x) (λ n. in_byte (number n))) h
+pub int_is : (w : Value) (s : Scalar) → cast_outcome (Ok s) ≡ resolve_int w → int_byte w ≡ in_byte (content_of s)
+unfolding after cast_outcome value_of number
+int_is w s e = as_byte w (Ok s) e
 
-  pub no-int : c ≡ Unsuited → int_byte w ≡ stop 6
-  unfolding after cast_outcome
-  no-int h = as_byte ∙ ap (λ (x : Cast). after (cast_outcome x) (λ n. in_byte (number n))) h
-
-  pub past-int : c ≡ OutOfRange → int_byte w ≡ stop 7
-  unfolding after cast_outcome
-  past-int h = as_byte ∙ ap (λ (x : Cast). after (cast_outcome x) (λ n. in_byte (number n))) h
+pub no-int : (w : Value) (x : CastError) → cast_outcome (Err x) ≡ resolve_int w → int_byte w ≡ stop (number_of (refusal_of x))
+unfolding after cast_outcome
+no-int w Unsuited e = as_byte w (Err Unsuited) e
+no-int w OutOfRange e = as_byte w (Err OutOfRange) e
 
 -- the answer for a value that was read
-pub byte-answer : (f : Value → Result ℕ) (x : Read Value) (w : Value) (r : List ℕ) (y : Result ℕ) (b : Byte) → x ≡ some (w, r) → f w ≡ y → b ≡ byte_of y → b ≡ byte_of (on_read f x)
+pub byte-answer : (f : Value → Result ℕ) (x : Read Value) (w : Value) (r : List ℕ) (y b : Result ℕ) → x ≡ some (w, r) → f w ≡ y → b ≡ y → b ≡ on_read f x
 unfolding on_read
-byte-answer f x w r y b e g h = h ∙ sym (ap byte_of (ap (on_read f) e ∙ g))
+byte-answer f x w r y b e g h = h ∙ sym (ap (on_read f) e ∙ g)
 
 -- ---- one Union peeled off
 
@@ -119,12 +126,12 @@ module _ (d : ℕ) (s : List ℕ) (p : Reads (read_value d s)) where
         outer = m ∙ bind-some (read_value (d - 1) (drop 5 s)) _ _ _ g.1.1;
       }
 
-  pub union-answer : get_or s 0 0 ≡ Kind.Union → (x : List ℕ) → x ≡ drop 5 s → (b : Byte) → b ≡ byte_of (on_read int_byte (read_value (d - 1) x)) → b ≡ byte_of (on_read try_u8 (read_value d s))
+  pub union-answer : get_or s 0 0 ≡ Kind.Union → (x : List ℕ) → x ≡ drop 5 s → (b : Result ℕ) → b ≡ on_read int_byte (read_value (d - 1) x) → b ≡ on_read try_u8 (read_value d s)
   unfolding on_read
   union-answer h x l b e =
       let u = union-node h in
       let i : on_read int_byte (read_value (d - 1) x) ≡ int_byte u.held = ap (λ (z : List ℕ). on_read int_byte (read_value (d - 1) z)) l ∙ ap (on_read int_byte) u.inner in
-      byte-answer try_u8 _ _ _ _ b u.outer (try-held u.index u.held) (e ∙ ap byte_of i)
+      byte-answer try_u8 _ _ _ _ b u.outer (try-held u.index u.held) (e ∙ i)
 
   pub union-reads : get_or s 0 0 ≡ Kind.Union → (x : List ℕ) → x ≡ drop 5 s → Reads (read_value (d - 1) x)
   union-reads h x l = rw l (reads-some _ _ (union-node h).inner)
@@ -137,7 +144,7 @@ module _ (d : ℕ) (s : List ℕ) (p : Reads (read_value d s)) where
   pub array-reads : get_or s 0 0 ≡ Kind.Array → (x : List ℕ) → x ≡ drop 1 s → Reads (read_list (read_value (d - 1)) x)
   array-reads h x l = rw l (reads_first (read_list (read_value (d - 1)) (drop 1 s)) _ (reads-eq _ _ (array-node h) p))
 
-  pub array-answer : get_or s 0 0 ≡ Kind.Array → (x : List ℕ) → x ≡ drop 1 s → (o : List ℕ) (a : Answer)
+  pub array-answer : get_or s 0 0 ≡ Kind.Array → (x : List ℕ) → x ≡ drop 1 s → (o : List ℕ) (a : std.Result ℕ Refusal)
       → Wrote (on_read (λ vs. encoded (items_as_bytes vs)) (read_list (read_value (d - 1)) x)) o a → Wrote (on_read (λ w. encoded (resolve_bytes w)) (read_value d s)) o a
   unfolding on_read ◌>>=◌ items_as_bytes
   array-answer h x l o a w =
@@ -148,10 +155,10 @@ module _ (d : ℕ) (s : List ℕ) (p : Reads (read_value d s)) where
       go none = refl
       go (some z) = refl
 
-pub plain-answer : (d : ℕ) (s : List ℕ) (b : Byte) → ((w : Value) (r : List ℕ) → read_value d s ≡ some (w, r) → kind_of w ≡ Kind.Union → ⊥) → b ≡ byte_of (on_read int_byte (read_value d s))
-    → b ≡ byte_of (on_read try_u8 (read_value d s))
+pub plain-answer : (d : ℕ) (s : List ℕ) (b : Result ℕ) → ((w : Value) (r : List ℕ) → read_value d s ≡ some (w, r) → kind_of w ≡ Kind.Union → ⊥) → b ≡ on_read int_byte (read_value d s)
+    → b ≡ on_read try_u8 (read_value d s)
 unfolding on_read
-plain-answer d s b f e = e ∙ ap byte_of (go (read_value d s) refl)
+plain-answer d s b f e = e ∙ go (read_value d s) refl
   where
     go : (y : Read Value) → read_value d s ≡ y → on_read int_byte y ≡ on_read try_u8 y
     go none h = refl
@@ -176,21 +183,9 @@ behind-done (ok t) done b = ap ok (sym (append_assoc done (b ∷ []) t))
 behind-done (stop n) done b = refl
 
 -- what the answer says of the item that was read
-byte-is : (x : Read Value) (a : Value) (r : List ℕ) (b : ℕ) → x ≡ some (a, r) → Is b ≡ byte_of (on_read try_u8 x) → try_u8 a ≡ ok b
-unfolding on_read byte_of
-byte-is x a r b e h = go (try_u8 a) (h ∙ ap (λ y. byte_of (on_read try_u8 y)) e)
-  where
-    go : (y : Result ℕ) → Is b ≡ byte_of y → y ≡ ok b
-    go (ok m) q = let i : m ≡ b = cc in ap ok i
-    go (stop m) q = let z : ◌≡◌ {A = ℕ} 0 1 = cc in absurd (omega arith)
-
-byte-not : (x : Read Value) (a : Value) (r : List ℕ) (n : ℕ) → x ≡ some (a, r) → Refused n ≡ byte_of (on_read try_u8 x) → try_u8 a ≡ stop n
-unfolding on_read byte_of
-byte-not x a r n e h = go (try_u8 a) (h ∙ ap (λ y. byte_of (on_read try_u8 y)) e)
-  where
-    go : (y : Result ℕ) → Refused n ≡ byte_of y → y ≡ stop n
-    go (ok m) q = let z : ◌≡◌ {A = ℕ} 0 1 = cc in absurd (omega arith)
-    go (stop m) q = let i : m ≡ n = cc in ap stop i
+byte-is : (x : Read Value) (a : Value) (r : List ℕ) (b : Result ℕ) → x ≡ some (a, r) → b ≡ on_read try_u8 x → try_u8 a ≡ b
+unfolding on_read
+byte-is x a r b e h = sym (h ∙ ap (on_read try_u8) e)
 
 -- the loop has come to `at` with `left` items to go: the bytes of the items passed are in o behind the header
 pub record Filling (p : List ℕ → Read Value) (s : List ℕ) (left at : ℕ) (o : List ℕ) (n : ℕ) : Type 0 where
@@ -229,13 +224,13 @@ module _ (p : List ℕ → Read Value) (s : List ℕ) (left at : ℕ) (o : List 
   next h a r e = many-suc p left (drop at s) h ∙ bind-some (p (drop at s)) _ a r e
 
   -- an item is a byte, which is written
-  pub filling_step : 0 < left → (x : List ℕ) → x ≡ drop at s → (b m : ℕ) → Is b ≡ byte_of (on_read try_u8 (p x)) → (y : List ℕ) → y ≡ drop at s → Spans (p y) y m → (o' : List ℕ) (n' : ℕ)
+  pub filling_step : 0 < left → (x : List ℕ) → x ≡ drop at s → (b m : ℕ) → ok b ≡ on_read try_u8 (p x) → (y : List ℕ) → y ≡ drop at s → Spans (p y) y m → (o' : List ℕ) (n' : ℕ)
       → ((c : List ℕ) → Built c o n → Built (c ++ (b ∷ [])) o' n') → Filling p s (left - 1) (at + m) o' n'
   unfolding Spans
   filling_step h x l b m e y k w o' n' f =
       let v : Spans (p (drop at s)) (drop at s) m = subst (λ (z : List ℕ). Spans (p z) z m) k w in
       let a = v.1.0 in
-      let i : try_u8 a ≡ ok b = byte-is (p (drop at s)) a _ b v.1.1 (e ∙ ap (λ (z : List ℕ). byte_of (on_read try_u8 (p z))) l) in
+      let i : try_u8 a ≡ ok b = byte-is (p (drop at s)) a _ (ok b) v.1.1 (e ∙ ap (λ (z : List ℕ). on_read try_u8 (p z)) l) in
       let j : read_many p left (drop at s) ≡ map_read (λ xs. a ∷ xs) (read_many p (left - 1) (drop (at + m) s)) =
       next h a _ v.1.1 ∙ ap (λ r. map_read (λ xs. a ∷ xs) (read_many p (left - 1) r)) (drop-drop m at s) in
       record {
@@ -249,11 +244,11 @@ module _ (p : List ℕ → Read Value) (s : List ℕ) (left at : ℕ) (o : List 
       }
 
   -- an item is no byte
-  pub filling-refused : 0 < left → (x : List ℕ) → x ≡ drop at s → (e : ℕ) → Refused e ≡ byte_of (on_read try_u8 (p x)) → on_read list_bytes (read_list p s) ≡ stop e
+  pub filling-refused : 0 < left → (x : List ℕ) → x ≡ drop at s → (e : ℕ) → stop e ≡ on_read try_u8 (p x) → on_read list_bytes (read_list p s) ≡ stop e
   unfolding Reads after
   filling-refused h x l e q =
       let v = filling-first h (drop at s) refl in
-      let i : try_u8 v.0 ≡ stop e = byte-not (p (drop at s)) v.0 _ e v.1.1 (q ∙ ap (λ (z : List ℕ). byte_of (on_read try_u8 (p z))) l) in
+      let i : try_u8 v.0 ≡ stop e = byte-is (p (drop at s)) v.0 _ (stop e) v.1.1 (q ∙ ap (λ (z : List ℕ). on_read try_u8 (p z)) l) in
       let j = next h v.0 _ v.1.1 in
       let k = reads_first (read_many p (left - 1) v.1.0) _ (reads-eq _ _ j g.reads) in
       g.outcome ∙ ap (λ (u : Result (List ℕ)). after u (λ t. ok (g.done ++ t))) (ap (on_read list_bytes) j ∙ items-stopped v.0 _ e k i)
@@ -273,7 +268,7 @@ items-outcome none = refl
 items-outcome (some z) = refl
 
 module _ (p : List ℕ → Read Value) (s : List ℕ) (left at : ℕ) (o : List ℕ) (n : ℕ) (g : Filling p s left at o n) where
-  pub items-accepted : left ≤ 0 → Wrote (on_read (λ vs. encoded (items_as_bytes vs)) (read_list p s)) o (A.Accepted n)
+  pub items-accepted : left ≤ 0 → Wrote (on_read (λ vs. encoded (items_as_bytes vs)) (read_list p s)) o (Ok n)
   unfolding encoded after
   items-accepted h =
       let c : number_at s 0 2 ≡ length g.done = omega (arith, g.counts) in
@@ -281,9 +276,9 @@ module _ (p : List ℕ → Read Value) (s : List ℕ) (left at : ℕ) (o : List 
       (items-outcome (read_list p s) ∙ ap (λ (u : Result (List ℕ)). encoded (after u (λ s. ok (Value.Octets Kind.Bytes s)))) (filling-end p s left at o n g h) ∙ ap ok (encode-counted Kind.Bytes g.done bytes-content))
       (built-counted Kind.Bytes _ g.done o n c (omega (arith, g.small)) g.built)
 
-  pub items_refused : 0 < left → (x : List ℕ) → x ≡ drop at s → (e : ℕ) → Refused e ≡ byte_of (on_read try_u8 (p x)) → (o' : List ℕ)
-      → Wrote (on_read (λ vs. encoded (items_as_bytes vs)) (read_list p s)) o' (A.Refused e)
+  pub items_refused : 0 < left → (x : List ℕ) → x ≡ drop at s → (e : Refusal) → stop (number_of e) ≡ on_read try_u8 (p x) → (o' : List ℕ)
+      → Wrote (on_read (λ vs. encoded (items_as_bytes vs)) (read_list p s)) o' (Err e)
   unfolding encoded after
   items_refused h x l e q o' =
       wrote-stop _ o' e
-      (items-outcome (read_list p s) ∙ ap (λ (u : Result (List ℕ)). encoded (after u (λ s. ok (Value.Octets Kind.Bytes s)))) (filling-refused p s left at o n g h x l e q))
+      (items-outcome (read_list p s) ∙ ap (λ (u : Result (List ℕ)). encoded (after u (λ s. ok (Value.Octets Kind.Bytes s)))) (filling-refused p s left at o n g h x l (number_of e) q))

@@ -1,16 +1,9 @@
--- What `try_u8` answers, and what the items of an array that were read are as Bytes.
+-- What the items of an array that were read are as Bytes.
 use Rattle.std.specs.Prelude.{ℕ, List}
-use Rattle.base.specs.Base.{Result, ok, stop}
+use Rattle.base.specs.Base.{Result}
 use Rattle.frame.specs.Tree.{Value}
 use Rattle.frame.specs.ValueFrame.{items_of}
 use Rattle.types.specs.Types.{Outcome, byte_items, resolve_bytes}
-use Rattle.bytewise.specs.declared.Byte.{Byte}
-use Rattle.bytewise.specs.declared.Byte.TheVariants.{Is, Refused}
-
--- the answer for a byte or a refusal
-unfoldable pub byte_of : Result ℕ → Byte
-byte_of (ok n) = Is n
-byte_of (stop n) = Refused n
 
 -- the bytes of items that were read
 unfoldable pub list_bytes : List Value → Result (List ℕ)

@@ -1,30 +1,27 @@
 -- What the entries' proofs cite: signed numbers counted from an origin and back, the days that the calendar lacks, and the answers by their parts.
 use Prim.Native.Nat.{ℕ, ◌+◌, ◌*◌, ◌^◌, ◌≤◌, ◌<◌}
 use mathlib.Core.Path.{◌≡◌, refl, ap, sym, ◌∙◌, subst}
-use mathlib.Core.Bool.{Bool, true, false, not, ◌&&◌, and-false}
+use mathlib.Core.Bool.{Bool, true, false, ◌&&◌, and-false}
 use native.Mathlib.Nat.{mul-le-mul}
 use native.Mathlib.Omega.{arith}
-use lib.Dec.{eqb, ltb, leb}
+use lib.Dec.{leb, eqb}
 use lib.IntN.{ℤ, pos, negsuc, sub_ℕ}
 use lib.Signed.{mag, le_z, lt_z}
-use mir.Syntax.{w64}
-use mir.Val.{SFits, to_z, of_z}
-use mir.ValLaws.{to_z-of_z}
-use borrow.Author.Tests.{lt-leb, le-leb, ltb-true, ltb-false, eq-eqb, ne_eqb}
+use borrow.Author.Tests.{le-leb, lt-leb, eq-eqb, ne_eqb}
+use Rattle.std.specs.Ordering.{nat_cmp, int_cmp, is_lt, is_le}
+use Rattle.std.proofs.lemmas.Bool.Decides.{nat_tests}
+use Rattle.std.proofs.lemmas.Int.{ints}
 use Rattle.base.specs.Base.{when◌then◌else◌, within, Result, ok, stop, after}
 use Rattle.gregorian.specs.declared.Counted.{Counted}
 use Rattle.gregorian.specs.Rules.{month_length}
 use Rattle.gregorian.specs.Counted.{leap_at, counted, Within, number_of, day_with, all_after}
 use Rattle.gregorian.proofs.Laws.{month_length-≤, day-date, date-within}
 use Rattle.gregorian.proofs.Fast.{year-small, number_small}
-use Rattle.scalar.specs.Scalars.{kind_of, time_of}
+use Rattle.scalar.specs.Scalars.{kind_of}
 use Rattle.scalar.specs.declared.Scalar.{Scalar}
 use Rattle.calendar.specs.declared.Civil.{Civil}
-use Rattle.calendar.specs.declared.Dated.TheVariants.{On, Refused as NoDate}
-use Rattle.calendar.specs.declared.Sum.TheVariants.{To, Refused as NoSum}
 use Rattle.calendar.specs.Calendar.{leap, civil, in_calendar, day_number, civil_of}
 use Rattle.calendar.specs.Instants.{ranged, date_of, added, is_instant, number_in, window_holds}
-use Rattle.calendar.specs.Answers.{dated_of, stamp_of, stamped_sum, sum_of}
 use Rattle.calendar.specs.Origin.{year_zero, epoch, counted_from, shown}
 use Rattle.calendar.proofs.Whole.{pos-sub, neg-sub}
 use Rattle.calendar.proofs.Shift.{leap-shown, day-shown, date-shown}
@@ -69,39 +66,26 @@ civil-small z f =
     subst (λ (c : Civil). (c.month ≤ 12) × (c.day ≤ 31)) (sym (ap civil_of (counted_is epoch (2 ^ 31) (omega arith) z f) ∙ date-shown n)) (w.month-≤, omega (arith, w.day-≤, month_length-≤ (leap_at d.year) d.month))
 
 -- ---- days that the calendar lacks
-below : (lo hi n : ℕ) → n < lo → within lo hi n ≡ false
-below lo hi n h = ap (λ (t : Bool). t && leb n hi) (lt-leb lo n h)
+-- and those that it has, with a year counted
+within-is : (lo hi n : ℕ) → within lo hi n ≡ true → (lo ≤ n) × (n ≤ hi)
+within-is lo hi n h = grind (arith, nat_tests)
 
-above : (lo hi n : ℕ) → hi < n → within lo hi n ≡ false
-above lo hi n h = ap (λ (t : Bool). leb lo n && t) (lt-leb n hi h) ∙ and-false (leb lo n)
+pub there : (y m d : ℕ) → within 1 12 m ≡ true → within 1 (month_length (leap_at y) m) d ≡ true → Within (counted y m d)
+there y m d a b =
+    let p = within-is 1 12 m a in
+    let q = within-is 1 (month_length (leap_at y) m) d b in
+    record { month-≥ = p.0; month-≤ = p.1; day-≥ = q.0; day-≤ = q.1 }
 
--- either half of the test
-left : (a b : Bool) → a ≡ false → a && b ≡ false
-left a b e = ap (λ (t : Bool). t && b) e
+-- a month past December
+pub no-month-high : (c : Civil) → 12 < c.month → in_calendar c ≡ false
+unfolding in_calendar
+no-month-high c h =
+    let e : within 1 12 c.month ≡ false = ap (λ (t : Bool). leb 1 c.month && t) (lt-leb c.month 12 h) ∙ and-false (leb 1 c.month) in
+    ap (λ (t : Bool). t && within 1 (month_length (leap c.year) c.month) c.day) e
 
-right : (a b : Bool) → b ≡ false → a && b ≡ false
-right a b e = ap (λ (t : Bool). a && t) e ∙ and-false a
-
-module _ (c : Civil) where
-  pub no-month-low : c.month < 1 → in_calendar c ≡ false
-  unfolding in_calendar
-  no-month-low h = left _ _ (below _ _ c.month h)
-
-  pub no-month-high : 12 < c.month → in_calendar c ≡ false
-  unfolding in_calendar
-  no-month-high h = left _ _ (above _ _ c.month h)
-
-  pub no-day-low : c.day < 1 → in_calendar c ≡ false
-  unfolding in_calendar
-  no-day-low h = right (within 1 12 c.month) _ (below _ _ c.day h)
-
-  pub no-day-high : month_length (leap c.year) c.month < c.day → in_calendar c ≡ false
-  unfolding in_calendar
-  no-day-high h = right (within 1 12 c.month) _ (above _ _ c.day h)
-
-pub no-date : (c : Civil) → in_calendar c ≡ false → NoDate 27 ≡ dated_of (date_of c)
-unfolding date_of dated_of
-no-date c e = ap (λ (t : Bool). dated_of (when t then ranged (2 ^ 31) (day_number c) else stop 27)) (sym e)
+pub no-date : (c : Civil) → in_calendar c ≡ false → stop 27 ≡ date_of c
+unfolding date_of
+no-date c e = ap (λ (t : Bool). when t then ranged (2 ^ 31) (day_number c) else stop 27) (sym e)
 
 pub in-calendar : (c : Counted) → Within c → in_calendar (shown c) ≡ true
 unfolding in_calendar
@@ -156,23 +140,16 @@ stamp-sum u p t f months days millis z g h et ef =
     ∙ sym (added-shown u p (2 ^ 63) (counted_from w z) months days millis (omega arith) (counted-≥ w (2 ^ 63) (long-room u g) z h))
     ∙ ap (λ (x : ℤ). added u p (2 ^ 63) x months days millis) (sym (counted_is w (2 ^ 63) (long-room u g) z h))
 
--- the sum by the answer over the unit
-pub sum-on : (f : ℤ → Scalar) (r : Result ℤ) (z : ℤ) → dated_of r ≡ On z → To (f z) ≡ sum_of (after r (λ x. ok (f x)))
-unfolding dated_of sum_of after
-sum-on f (ok y) z e = let h : y ≡ z = cc in ap (λ (x : ℤ). To (f x)) (sym h)
-sum-on f (stop n) z e = let h : ◌≡◌ {A = ℕ} 0 1 = cc in absurd (omega arith)
+-- what an instant becomes, by the answer over the unit
+module _ (f : ℤ → Scalar) (r : Result ℤ) where
+  pub sum-on : (z : ℤ) → ok z ≡ r → ok (f z) ≡ after r (λ x. ok (f x))
+  unfolding after
+  sum-on z e = ap (λ (x : Result ℤ). after x (λ y. ok (f y))) e
 
-pub no-sum-on : (f : ℤ → Scalar) (r : Result ℤ) (n : ℕ) → dated_of r ≡ NoDate n → NoSum n ≡ sum_of (after r (λ x. ok (f x)))
-unfolding dated_of sum_of after
-no-sum-on f (ok y) n e = let h : ◌≡◌ {A = ℕ} 0 1 = cc in absurd (omega arith)
-no-sum-on f (stop m) n e = let h : m ≡ n = cc in ap NoSum (sym h)
+  pub no-sum-on : (n : ℕ) → stop n ≡ r → stop n ≡ after r (λ x. ok (f x))
+  unfolding after
+  no-sum-on n e = ap (λ (x : Result ℤ). after x (λ y. ok (f y))) e
 
-pub sum-at : (f : ℤ → Scalar) (k : ℕ) (r : Result ℤ) → ((z : ℤ) → time_of k z ≡ f z) → stamped_sum k (stamp_of r) ≡ sum_of (after r (λ x. ok (f x)))
-unfolding stamp_of stamped_sum sum_of after
-sum-at f k (ok z) h = ap To (h z)
-sum-at f k (stop n) h = refl
-
--- any other kind
 -- ---- windows
 module _ (o c m : Scalar) where
   kinds : (a b e : Bool) → is_instant (kind_of o) ≡ a → eqb (kind_of c) (kind_of o) ≡ b → eqb (kind_of m) (kind_of o) ≡ e
@@ -195,26 +172,12 @@ module _ (o c m : Scalar) where
   pub same-kinds : is_instant (kind_of o) ≡ true → kind_of c ≡ kind_of o → kind_of m ≡ kind_of o → window_holds o c m ≡ ok (le_z (number_in o) (number_in m) && lt_z (number_in m) (number_in c))
   same-kinds p q r = kinds true true true p (eq-eqb (kind_of c) (kind_of o) q) (eq-eqb (kind_of m) (kind_of o) r)
 
-leb-not-ltb : (a b : ℕ) → leb a b ≡ not (ltb b a)
-leb-not-ltb a b = go (ltb b a) refl
-  where
-    go : (t : Bool) → ltb b a ≡ t → leb a b ≡ not t
-    go true e = lt-leb a b (ltb-true b a e)
-    go false e = le-leb a b (ltb-false b a e)
+-- ---- std's comparisons
+pub cmp-within : (lo hi n : ℕ) → is_le (nat_cmp lo n) && is_le (nat_cmp n hi) ≡ within lo hi n
+cmp-within lo hi n = grind (arith, nat_tests)
 
-le_not_lt : (a b : ℤ) → le_z a b ≡ not (lt_z b a)
-le_not_lt (pos a) (pos b) = leb-not-ltb a b
-le_not_lt (pos a) (negsuc b) = refl
-le_not_lt (negsuc a) (pos b) = refl
-le_not_lt (negsuc a) (negsuc b) = leb-not-ltb b a
+pub cmp-lt : (a b : ℤ) → is_lt (int_cmp a b) ≡ lt_z a b
+cmp-lt a b = grind (arith, ints)
 
--- by the two comparisons
-pub between-tests : (o c m : ℤ) (a b : Bool) → lt_z m o ≡ a → lt_z m c ≡ b → le_z o m && lt_z m c ≡ (not a && b)
-between-tests o c m a b p q = ap (λ (t : Bool). t && lt_z m c) (le_not_lt o m) ∙ ap (λ (t : Bool). not t && lt_z m c) p ∙ ap (λ (t : Bool). not a && t) q
-
-pub between-at : {o e m o' e' m' : ℤ} → o ≡ o' → e ≡ e' → m ≡ m' → ok (le_z o m && lt_z m e) ≡ ok (le_z o' m' && lt_z m' e')
-between-at p q r = cc
-
--- a comparison of the code, by its numbers
-pub compared : (a b : ℤ) (t : Bool) → SFits w64 a → SFits w64 b → lt_z (to_z w64 (of_z w64 a)) (to_z w64 (of_z w64 b)) ≡ t → lt_z a b ≡ t
-compared a b t p q e = ap (λ (x : ℤ). lt_z x b) (sym (to_z-of_z w64 a p)) ∙ ap (lt_z (to_z w64 (of_z w64 a))) (sym (to_z-of_z w64 b q)) ∙ e
+pub cmp-le : (a b : ℤ) → is_le (int_cmp a b) ≡ le_z a b
+cmp-le a b = grind (arith, ints)

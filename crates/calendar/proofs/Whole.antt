@@ -6,7 +6,9 @@ use native.Mathlib.Nat.{add-mul}
 use native.Mathlib.Omega.{arith}
 use lib.Dec.{ltb}
 use lib.IntN.{ℤ, pos, negsuc, suc_ℤ, pred_ℤ, neg_ℤ, sub_ℕ, ◌+ℤ◌, ◌-ℤ◌, ◌*ℤ◌, +ℤ_assoc, +ℤ_comm, +ℤ_one, -ℤ_one, +ℤ-neg_ℤ_cancel, neg_ℤ-+ℤ}
+use borrow.Author.Differences.{up, down}
 use borrow.Author.Tests.{lt-ltb, le-ltb, ltb-true, ltb-false}
+use Rattle.std.proofs.lemmas.Int.{ints}
 
 pub sub-neg : (n k : ℕ) → n < k → sub_ℕ n k ≡ negsuc (k - suc n)
 sub-neg n k h = ap (λ (t : Bool). cond t (negsuc (k - suc n)) (pos (n - k))) (lt-ltb n k h)
@@ -31,6 +33,10 @@ neg-sub k a h = let e : a ≡ k - suc (k - suc a) = omega arith in ap negsuc e �
 sub_is : (n k : ℕ) → sub_ℕ n k ≡ pos n -ℤ pos k
 sub_is n zero = let e : n - 0 ≡ n + 0 = omega arith in sub-pos n 0 (omega arith) ∙ ap pos e
 sub_is n (suc k) = refl
+
+-- for `omega` with the rules `ints`
+pub sub-differ : (n k : ℕ) → up (sub_ℕ n k) + k ≡ n + down (sub_ℕ n k)
+sub-differ n k = omega (arith, ints, sub_is n k)
 
 pub sub-add : (n k a : ℕ) → sub_ℕ n k +ℤ pos a ≡ sub_ℕ (n + a) k
 sub-add n k a =

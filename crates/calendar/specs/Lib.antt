@@ -1,4 +1,3 @@
 pub mod Calendar
 pub mod Instants
-pub mod Answers
 pub mod Origin

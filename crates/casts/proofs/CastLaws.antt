@@ -6,12 +6,15 @@ use mathlib.Core.Option.{none, some}
 use mathlib.Core.Bool.{Bool, true, false, ◌||◌, true≢false}
 use native.Mathlib.Nat.{mod-eq_of_lt}
 use native.Mathlib.Omega.{arith}
-use borrow.Author.Tests.{eq-eqb, ne_eqb, lt-ltb, le-ltb, le-leb, eqb-true, eqb-false, leb-true, leb-false, ltb-true, ltb-false}
-use lib.Dec.{T, leb, eqb, ltb}
+use borrow.Author.Tests.{eq-eqb, ne_eqb, lt-ltb, le-ltb, le-leb, eqb-true, eqb-false, ltb-true, ltb-false}
+use lib.Dec.{T, eqb, ltb}
 use lib.IntN.{ℤ}
 use lib.ListN.{length, get_or, drop}
 use lib.Seq.{drop-length}
+use Rattle.std.specs.Prelude as std
+use Rattle.std.specs.Prelude.{Ok, Err}
 use Rattle.base.specs.Base.{when◌then◌else◌, ok, stop}
+use Rattle.base.specs.declared.refusal.Refusal.{Refusal}
 use Rattle.number.specs.Number.{all_bytes, number_at, bytes_of, written}
 use Rattle.number.proofs.Laws.{number_at-<, length-bytes_of, bytes_of_mod}
 use Rattle.text.specs.Read.{Read}
@@ -19,11 +22,11 @@ use Rattle.text.specs.Measured.{Reads}
 use Rattle.rounding.specs.Rounding.{of_twos, to_twos}
 use Rattle.scalar.specs.Conversion.{long_of_int, in_int, int_of_long}
 use Rattle.scalar.specs.Scalars
-use Rattle.scalar.specs.Scalars.{time_of, of_content, is_scalar, is_short, width_of, content_of, int_cast, long_cast, keep, time_cast}
+use Rattle.scalar.specs.Scalars.{time_of, of_content, is_scalar, is_short, width_of, content_of, int_cast, long_cast, keep, time_cast, refusal_of}
 use Rattle.scalar.specs.declared.Scalar.{Scalar}
 use Rattle.scalar.specs.declared.Scalar.TheVariants.{Int, Long, Float, FloatNan, Double, DoubleNan, Date, TimeMillis, TimeMicros, TimestampMillis, TimestampMicros, TimestampNanos, LocalTimestampMillis, LocalTimestampMicros, LocalTimestampNanos}
-use Rattle.scalar.specs.declared.Cast.{Cast}
-use Rattle.scalar.specs.declared.Cast.TheVariants.{To, Unsuited, OutOfRange}
+use Rattle.scalar.specs.declared.CastError.{CastError}
+use Rattle.scalar.specs.declared.CastError.TheVariants.{Unsuited, OutOfRange}
 use Rattle.scalar.proofs.Contents.{of-kind-2, of-kind-3, int-long}
 use Rattle.scalar.proofs.Times.{twos_back, time-content}
 use Rattle.scalar.proofs.Bounds.{int_of_long-<}
@@ -34,8 +37,6 @@ use Rattle.frame.specs.ValueFrame
 use Rattle.frame.specs.ValueFrame.{contents, kind_content, read_value, encode_value}
 use Rattle.frame.proofs.Reading.{read-what}
 use Rattle.buffer.specs.Built.{Built, Wrote}
-use Rattle.buffer.specs.declared.Answer.{Answer}
-use Rattle.buffer.specs.declared.Answer.TheVariants.{Accepted, Refused}
 use Rattle.types.specs.Types.{Outcome, resolve_int, resolve_long, resolve_int_time, resolve_long_time, resolve_plain}
 use Rattle.types.specs.Contract.{encoded, on_read, value_of, scalar_of, cast_outcome}
 use Rattle.types.proofs.Contents.{int-content, long-content, float-content, double-content, short-time-content, long-time-content}
@@ -96,17 +97,14 @@ module _ (s : Scalar) (k n : ℕ) (e : k ≡ Scalars.kind_of s) (f : n ≡ conte
       subst (λ (x : List ℕ). Built x o r) (ap (λ (t : Bool). k ∷ bytes_of (when t then 4 else 8) n) (sym h) ∙ sym node-is) b
 
 -- what a conversion gave, written
-pub cast-to : (c : Cast) (s : Scalar) (o : List ℕ) (n : ℕ) → c ≡ To s → Built (encode_value (value_of s)) o n → Wrote (encoded (cast_outcome c)) o (Accepted n)
+pub cast-to : (s : Scalar) (o : List ℕ) (n : ℕ) → Built (encode_value (value_of s)) o n → Wrote (encoded (cast_outcome (Ok s))) o (Ok n)
 unfolding encoded cast_outcome
-cast-to c s o n e b = wrote-ok _ _ o n (ap (λ (x : Cast). encoded (cast_outcome x)) e) b
+cast-to s o n b = wrote-ok _ _ o n refl b
 
-pub cast-unsuited : (c : Cast) (o : List ℕ) → c ≡ Unsuited → Wrote (encoded (cast_outcome c)) o (Refused 6)
+pub cast-refused : (e : CastError) (o : List ℕ) → Wrote (encoded (cast_outcome (Err e))) o (Err (refusal_of e))
 unfolding encoded cast_outcome
-cast-unsuited c o e = wrote-stop _ o 6 (ap (λ (x : Cast). encoded (cast_outcome x)) e)
-
-pub cast-outside : (c : Cast) (o : List ℕ) → c ≡ OutOfRange → Wrote (encoded (cast_outcome c)) o (Refused 7)
-unfolding encoded cast_outcome
-cast-outside c o e = wrote-stop _ o 7 (ap (λ (x : Cast). encoded (cast_outcome x)) e)
+cast-refused Unsuited o = wrote-stop _ o (refusal_of Unsuited) refl
+cast-refused OutOfRange o = wrote-stop _ o (refusal_of OutOfRange) refl
 
 -- ---- a node that was read
 
@@ -131,10 +129,10 @@ module _ (d : ℕ) (s : List ℕ) (p : Reads (read_value d s)) (h : is_scalar (g
       ap (of_content kind_at) (f ∙ ap (λ (x : Bool). number_at s 1 (when x then 4 else 8)) (sym e))
       ∙ ap scalar_of (read-what (sym scalar-node.1 ∙ r))
 
-  module _ (b : T (all_bytes s)) (f : Value → Outcome) (g : Scalar → Cast)
+  module _ (b : T (all_bytes s)) (f : Value → Outcome) (g : Scalar → std.Result Scalar CastError)
       (law : (k n : ℕ) → ScalarKind k → n < 256 ^ width_of k → cast_outcome (g (of_content k n)) ≡ f (Value.Scalar k n)) where
     -- a conversion of the node's scalar is the function's outcome
-    pub cast-outcome : (x : Scalar) (c : Cast) → ((w : Value) (u : List ℕ) → read_value d s ≡ some (w, u) → x ≡ scalar_of w) → c ≡ g x
+    pub cast-outcome : (x : Scalar) (c : std.Result Scalar CastError) → ((w : Value) (u : List ℕ) → read_value d s ≡ some (w, u) → x ≡ scalar_of w) → c ≡ g x
         → (w : Value) (u : List ℕ) → read_value d s ≡ some (w, u) → cast_outcome c ≡ f w
     unfolding scalar_of kind_of number
     cast-outcome x c q i w u r =
@@ -143,7 +141,7 @@ module _ (d : ℕ) (s : List ℕ) (p : Reads (read_value d s)) (h : is_scalar (g
         ∙ ap f (read-what (sym scalar-node.1 ∙ r))
 
 -- an outcome that is known of the value that was read, answered
-pub read_answer : (d : ℕ) (s : List ℕ) (f : Value → Outcome) (c : Cast) (o : List ℕ) (a : Answer) → Reads (read_value d s)
+pub read_answer : (d : ℕ) (s : List ℕ) (f : Value → Outcome) (c : std.Result Scalar CastError) (o : List ℕ) (a : std.Result ℕ Refusal) → Reads (read_value d s)
     → ((w : Value) (u : List ℕ) → read_value d s ≡ some (w, u) → cast_outcome c ≡ f w) → Wrote (encoded (cast_outcome c)) o a
     → Wrote (on_read (λ w. encoded (f w)) (read_value d s)) o a
 unfolding on_read Reads
@@ -186,12 +184,12 @@ unfolding value_of
 value_is k n t h = ap (λ (x : ℕ). Value.Scalar x (content_of (of_content k n))) (kind-back k n t) ∙ ap (Value.Scalar k) (content-back k n t h)
 
 -- what is of the wished kind already
-kept : (f : Value → Outcome) (k n : ℕ) → ScalarKind k → n < 256 ^ width_of k → (c : Cast) → c ≡ To (of_content k n) → f (Value.Scalar k n) ≡ ok (Value.Scalar k n) → cast_outcome c ≡ f (Value.Scalar k n)
+kept : (f : Value → Outcome) (k n : ℕ) → ScalarKind k → n < 256 ^ width_of k → (c : std.Result Scalar CastError) → c ≡ Ok (of_content k n) → f (Value.Scalar k n) ≡ ok (Value.Scalar k n) → cast_outcome c ≡ f (Value.Scalar k n)
 unfolding cast_outcome
 kept f k n t h c e g = ap cast_outcome e ∙ ap ok (value_is k n t h) ∙ sym g
 
 module _ (k n : ℕ) (t : ScalarKind k) (f : k ≡ 0x02 → ⊥) (g : k ≡ 0x03 → ⊥) where
-  neither : (int_cast (of_content k n) ≡ Unsuited) × (long_cast (of_content k n) ≡ Unsuited) × ((j : ℕ) → time_cast j (of_content k n) ≡ keep j (of_content k n))
+  neither : (int_cast (of_content k n) ≡ Err Unsuited) × (long_cast (of_content k n) ≡ Err Unsuited) × ((j : ℕ) → time_cast j (of_content k n) ≡ keep j (of_content k n))
   neither = others (of_content k n) (λ e. f (sym (kind-back k n t) ∙ e)) (λ e. g (sym (kind-back k n t) ∙ e))
 
   no-int-cast : cast_outcome (int_cast (of_content k n)) ≡ resolve_int (Value.Scalar k n)
@@ -215,12 +213,12 @@ narrowed-outcome : (n : ℕ) → n < 2 ^ 64 → cast_outcome (int_cast (Long (of
 unfolding cast_outcome value_of
 narrowed-outcome n h = ap cast_outcome (long-as-int n h) ∙ go (in_int n)
   where
-    go : (t : Bool) → cast_outcome (when t then To (Int (of_twos 32 (int_of_long n))) else OutOfRange) ≡ (when t then ok (Value.Scalar Kind.Int (int_of_long n)) else stop 7)
+    go : (t : Bool) → cast_outcome (when t then Ok (Int (of_twos 32 (int_of_long n))) else Err OutOfRange) ≡ (when t then ok (Value.Scalar Kind.Int (int_of_long n)) else stop 7)
     go true = ap (λ (x : ℕ). ok (Value.Scalar Kind.Int x)) (twos_back 32 (int_of_long n) (int_of_long-< n))
     go false = refl
 
 pub int-cast : (k n : ℕ) → ScalarKind k → n < 256 ^ width_of k → cast_outcome (int_cast (of_content k n)) ≡ resolve_int (Value.Scalar k n)
-int-cast k n (int e) h = kept resolve_int k n (int e) h _ (ap int_cast (of-kind-2 k n e) ∙ sym (ap To (of-kind-2 k n e))) (int-stays k n e)
+int-cast k n (int e) h = kept resolve_int k n (int e) h _ (ap int_cast (of-kind-2 k n e) ∙ sym (ap Ok (of-kind-2 k n e))) (int-stays k n e)
 int-cast k n (long e) h =
     ap (λ (s : Scalar). cast_outcome (int_cast s)) (of-kind-3 k n e) ∙ narrowed-outcome n (subst (λ (x : ℕ). n < 256 ^ x) (long-8 k e) h) ∙ sym (int-from-long k n e)
 int-cast k n (float e) h = no-int-cast k n (float e) (λ q. omega arith) (λ q. omega arith)
@@ -247,7 +245,7 @@ widened-outcome n h = ap (λ (x : ℕ). ok (Value.Scalar Kind.Long x)) (int-long
 pub long-cast : (k n : ℕ) → ScalarKind k → n < 256 ^ width_of k → cast_outcome (long_cast (of_content k n)) ≡ resolve_long (Value.Scalar k n)
 long-cast k n (int e) h =
     ap (λ (s : Scalar). cast_outcome (long_cast s)) (int-read k n e h) ∙ widened-outcome n (subst (λ (x : ℕ). n < 256 ^ x) (int-4 k e) h) ∙ sym (long-from-int k n e)
-long-cast k n (long e) h = kept resolve_long k n (long e) h _ (ap long_cast (of-kind-3 k n e) ∙ sym (ap To (of-kind-3 k n e))) (long-stays k n e)
+long-cast k n (long e) h = kept resolve_long k n (long e) h _ (ap long_cast (of-kind-3 k n e) ∙ sym (ap Ok (of-kind-3 k n e))) (long-stays k n e)
 long-cast k n (float e) h = no-long-cast k n (float e) (λ q. omega arith) (λ q. omega arith)
 long-cast k n (double e) h = no-long-cast k n (double e) (λ q. omega arith) (λ q. omega arith)
 long-cast k n (short l m) h = no-long-cast k n (short l m) (λ q. omega arith) (λ q. omega arith)
@@ -255,16 +253,16 @@ long-cast k n (wide l m) h = no-long-cast k n (wide l m) (λ q. omega arith) (λ
 
 -- as a time of kind j
 module _ (j : ℕ) (a : 0x10 ≤ j) (b : j ≤ 0x18) where
-  time-made : (z : ℤ) (m : ℕ) → to_twos (when ltb j 0x12 then 32 else 64) z ≡ m → cast_outcome (To (time_of j z)) ≡ ok (Value.Scalar j m)
+  time-made : (z : ℤ) (m : ℕ) → to_twos (when ltb j 0x12 then 32 else 64) z ≡ m → cast_outcome (Ok (time_of j z)) ≡ ok (Value.Scalar j m)
   unfolding cast_outcome value_of
   time-made z m e =
       ap (λ (x : ℕ). ok (Value.Scalar x (content_of (time_of j z)))) (time-back j z a b) ∙ ap (λ (x : ℕ). ok (Value.Scalar j x)) (time-content j z ∙ e)
 
   time-kept : (k n : ℕ) → ScalarKind k → n < 256 ^ width_of k → cast_outcome (keep j (of_content k n)) ≡ (when eqb k j then ok (Value.Scalar j n) else stop 6)
   unfolding cast_outcome
-  time-kept k n t h = ap (λ (x : ℕ). cast_outcome (when eqb x j then To (of_content k n) else Unsuited)) (kind-back k n t) ∙ go (eqb k j) refl
+  time-kept k n t h = ap (λ (x : ℕ). cast_outcome (when eqb x j then Ok (of_content k n) else Err Unsuited)) (kind-back k n t) ∙ go (eqb k j) refl
     where
-      go : (x : Bool) → eqb k j ≡ x → cast_outcome (when x then To (of_content k n) else Unsuited) ≡ (when x then ok (Value.Scalar j n) else stop 6)
+      go : (x : Bool) → eqb k j ≡ x → cast_outcome (when x then Ok (of_content k n) else Err Unsuited) ≡ (when x then ok (Value.Scalar j n) else stop 6)
       go true e = ap ok (value_is k n t h) ∙ ap (λ (x : ℕ). ok (Value.Scalar x n)) (eqb-true k j e)
       go false e = refl
 
@@ -282,7 +280,7 @@ module _ (j : ℕ) (a : 0x10 ≤ j) (b : j ≤ 0x18) where
       unfolding cast_outcome kind_of
       short-from-long e =
           ap (λ (x : Scalar). cast_outcome (time_cast j x)) (of-kind-3 k n e)
-          ∙ ap (λ (x : Bool). cast_outcome (when x then Unsuited else To (time_of j (of_twos 64 n)))) (lt-ltb j 0x12 s)
+          ∙ ap (λ (x : Bool). cast_outcome (when x then Err Unsuited else Ok (time_of j (of_twos 64 n)))) (lt-ltb j 0x12 s)
           ∙ sym (int-time-refused j k (λ q. omega arith) (λ q. omega arith) (Value.Scalar k n) refl)
 
       short-from-other : (k ≡ 0x02 → ⊥) → (k ≡ 0x03 → ⊥) → cast_outcome (time_cast j (of_content k n)) ≡ resolve_int_time j (Value.Scalar k n)
@@ -306,7 +304,7 @@ module _ (j : ℕ) (a : 0x10 ≤ j) (b : j ≤ 0x18) where
       unfolding resolve_long_time kind_of number
       wide-from-long e =
           ap (λ (x : Scalar). cast_outcome (time_cast j x)) (of-kind-3 k n e)
-          ∙ ap (λ (x : Bool). cast_outcome (when x then Unsuited else To (time_of j (of_twos 64 n)))) (le-ltb j 0x12 s)
+          ∙ ap (λ (x : Bool). cast_outcome (when x then Err Unsuited else Ok (time_of j (of_twos 64 n)))) (le-ltb j 0x12 s)
           ∙ time-made (of_twos 64 n) n (ap (λ (x : Bool). to_twos (when x then 32 else 64) (of_twos 64 n)) (le-ltb j 0x12 s) ∙ twos_back 64 n (subst (λ (x : ℕ). n < 256 ^ x) (long-8 k e) h))
           ∙ sym (rw (ne_eqb k j (λ q. omega arith), eq-eqb k 3 e) refl)
 
@@ -344,15 +342,7 @@ module _ (j : ℕ) (a : 0x10 ≤ j) (b : j ≤ 0x18) where
 
 -- what f answers, at a kind that goes to f
 pub plain-answered : (f : Value → Outcome) (j : ℕ) → ((w : Value) → resolve_plain j w ≡ f w) → (k : ℕ) → k ≡ j
-    → (x : Read Value) (o : List ℕ) (a : Answer) → Wrote (on_read (λ w. encoded (f w)) x) o a → Wrote (on_read (λ w. encoded (resolve_plain k w)) x) o a
+    → (x : Read Value) (o : List ℕ) (a : std.Result ℕ Refusal) → Wrote (on_read (λ w. encoded (f w)) x) o a → Wrote (on_read (λ w. encoded (resolve_plain k w)) x) o a
 unfolding on_read
 plain-answered f j g k e none o a h = h
 plain-answered f j g k e (some w) o a h = subst (λ z. Wrote (encoded z) o a) (sym (ap (λ (i : ℕ). resolve_plain i w.0) e ∙ g w.0)) h
-
--- of the kinds that are neither Bytes nor String, those below the dates
-pub below-times : (k : ℕ) → (5 < k → 0x10 ≤ k) → k < 0x10 → k ≤ 5
-below-times k f h = go (leb k 5) refl
-  where
-    go : (b : Bool) → leb k 5 ≡ b → k ≤ 5
-    go true e = leb-true k 5 e
-    go false e = absurd (omega (arith, f (leb-false k 5 e)))

@@ -8,20 +8,20 @@ use mathlib.Core.Bool.{Bool, true, false}
 use native.Mathlib.Omega.{arith}
 use lib.Dec.{T}
 use lib.ListN.{get_or, drop}
+use Rattle.std.specs.Prelude as std
+use Rattle.std.specs.Prelude.{Some, None, Ok, Err}
 use Rattle.base.specs.Base.{when◌then◌else◌, ok, stop}
+use Rattle.base.specs.declared.refusal.Refusal.{Refusal}
+use Rattle.base.specs.declared.refusal.Refusal.TheVariants.{Unsuited, NotANumber}
 use Rattle.number.specs.Number.{all_bytes, number_at, bytes_of}
 use Rattle.text.specs.Read.{Read, read_counted}
 use Rattle.text.specs.Measured.{Reads}
 use Rattle.scalar.specs.Conversion.{float_of_int, float_of_long, float_of_double, double_of_int, double_of_long, double_of_float, parse_special_float}
 use Rattle.bits.specs.Special.{special_of}
-use Rattle.bits.specs.declared.SpecialFloat.{SpecialFloat}
-use Rattle.bits.specs.declared.SpecialFloat.TheVariants.{Bits, NotOne}
 use Rattle.frame.specs.Kind
 use Rattle.frame.specs.Tree.{Value, kind_of, number, octets}
 use Rattle.frame.specs.ValueFrame.{wide, kind_content, read_value}
 use Rattle.buffer.specs.Built.{Built, Wrote}
-use Rattle.buffer.specs.declared.Answer.{Answer}
-use Rattle.buffer.specs.declared.Answer.TheVariants.{Accepted, Refused}
 use Rattle.types.specs.Types.{Outcome, float_of_bits, double_of_bits, special, resolve_float, resolve_double}
 use Rattle.types.specs.Contract.{encoded, on_read}
 use Rattle.types.proofs.Contents.{int-content, long-content, float-content, double-content, string-content}
@@ -47,12 +47,12 @@ to-double = record { of-int = λ n. refl; of-long = λ n. refl; of-float = λ n.
 
 -- ---- a float of kind j by its bits b, where n says whether they are a NaN's
 
-pub nan-refused : (j b : ℕ) (n : Bool) → n ≡ true → (o : List ℕ) → Wrote (encoded (when n then stop 28 else ok (Value.Scalar j b))) o (Refused 28)
+pub nan-refused : (j b : ℕ) (n : Bool) → n ≡ true → (o : List ℕ) → Wrote (encoded (when n then stop 28 else ok (Value.Scalar j b))) o (Err NotANumber)
 unfolding encoded
-nan-refused j b n e o = wrote-stop _ o 28 (rw e refl)
+nan-refused j b n e o = wrote-stop _ o NotANumber (rw e refl)
 
 pub number-built : (j w b : ℕ) (n : Bool) → kind_content j ≡ wide w → n ≡ false → (o : List ℕ) (m : ℕ) → Built (j ∷ bytes_of w b) o m
-    → Wrote (encoded (when n then stop 28 else ok (Value.Scalar j b))) o (Accepted m)
+    → Wrote (encoded (when n then stop 28 else ok (Value.Scalar j b))) o (Ok m)
 unfolding encoded
 number-built j w b n c e o m = wrote-ok _ (j ∷ bytes_of w b) o m (rw e (ap ok (encode-wide j w b c)))
 
@@ -62,47 +62,47 @@ module _ {f : Value → Outcome} {make : ℕ → Outcome} {of_int ofLong ofFloat
   module _ (d : ℕ) (s : List ℕ) (p : Reads (read_value d s)) where
     -- a number m of kind k that becomes the bits x
     number-way : (k w : ℕ) (g : ℕ → ℕ) → kind_content k ≡ wide w → ((n : ℕ) → f (Value.Scalar k n) ≡ make (g n)) → get_or s 0 0 ≡ k
-        → (m x : ℕ) → m ≡ number_at s 1 w → x ≡ g m → (o : List ℕ) (a : Answer) → Wrote (encoded (make x)) o a → Wrote (on_read (λ v. encoded (f v)) (read_value d s)) o a
+        → (m x : ℕ) → m ≡ number_at s 1 w → x ≡ g m → (o : List ℕ) (a : std.Result ℕ Refusal) → Wrote (encoded (make x)) o a → Wrote (on_read (λ v. encoded (f v)) (read_value d s)) o a
     number-way k w g c h e m x a b = wide-answered f d s p k w m c e a (make x) (h m ∙ ap make (sym b))
 
-    pub int-way : get_or s 0 0 ≡ 2 → (m x : ℕ) → m ≡ number_at s 1 4 → x ≡ of_int m → (o : List ℕ) (a : Answer) → Wrote (encoded (make x)) o a → Wrote (on_read (λ v. encoded (f v)) (read_value d s)) o a
+    pub int-way : get_or s 0 0 ≡ 2 → (m x : ℕ) → m ≡ number_at s 1 4 → x ≡ of_int m → (o : List ℕ) (a : std.Result ℕ Refusal) → Wrote (encoded (make x)) o a → Wrote (on_read (λ v. encoded (f v)) (read_value d s)) o a
     int-way = number-way 2 4 of_int int-content F.of-int
 
-    pub long-way : get_or s 0 0 ≡ 3 → (m x : ℕ) → m ≡ number_at s 1 8 → x ≡ ofLong m → (o : List ℕ) (a : Answer) → Wrote (encoded (make x)) o a → Wrote (on_read (λ v. encoded (f v)) (read_value d s)) o a
+    pub long-way : get_or s 0 0 ≡ 3 → (m x : ℕ) → m ≡ number_at s 1 8 → x ≡ ofLong m → (o : List ℕ) (a : std.Result ℕ Refusal) → Wrote (encoded (make x)) o a → Wrote (on_read (λ v. encoded (f v)) (read_value d s)) o a
     long-way = number-way 3 8 ofLong long-content F.of-long
 
-    pub float-way : get_or s 0 0 ≡ 4 → (m x : ℕ) → m ≡ number_at s 1 4 → x ≡ ofFloat m → (o : List ℕ) (a : Answer) → Wrote (encoded (make x)) o a → Wrote (on_read (λ v. encoded (f v)) (read_value d s)) o a
+    pub float-way : get_or s 0 0 ≡ 4 → (m x : ℕ) → m ≡ number_at s 1 4 → x ≡ ofFloat m → (o : List ℕ) (a : std.Result ℕ Refusal) → Wrote (encoded (make x)) o a → Wrote (on_read (λ v. encoded (f v)) (read_value d s)) o a
     float-way = number-way 4 4 ofFloat float-content F.of-float
 
-    pub double-way : get_or s 0 0 ≡ 5 → (m x : ℕ) → m ≡ number_at s 1 8 → x ≡ ofDouble m → (o : List ℕ) (a : Answer) → Wrote (encoded (make x)) o a → Wrote (on_read (λ v. encoded (f v)) (read_value d s)) o a
+    pub double-way : get_or s 0 0 ≡ 5 → (m x : ℕ) → m ≡ number_at s 1 8 → x ≡ ofDouble m → (o : List ℕ) (a : std.Result ℕ Refusal) → Wrote (encoded (make x)) o a → Wrote (on_read (λ v. encoded (f v)) (read_value d s)) o a
     double-way = number-way 5 8 ofDouble double-content F.of-double
 
     -- a text, in the part x behind the kind
-    pub text-way : get_or s 0 0 ≡ 7 → (x : List ℕ) → x ≡ drop 1 s → (o : List ℕ) (a : Answer) → Wrote (on_read (λ t. encoded (special (λ b. make (ofFloat b)) (parse_special_float t))) (read_counted x)) o a
+    pub text-way : get_or s 0 0 ≡ 7 → (x : List ℕ) → x ≡ drop 1 s → (o : List ℕ) (a : std.Result ℕ Refusal) → Wrote (on_read (λ t. encoded (special (λ b. make (ofFloat b)) (parse_special_float t))) (read_counted x)) o a
         → Wrote (on_read (λ v. encoded (f v)) (read_value d s)) o a
     text-way e = text-answered f d s p (λ t. special (λ b. make (ofFloat b)) (parse_special_float t)) 7 string-content e F.of-text
 
     pub other_way : T (all_bytes s) → (get_or s 0 0 ≡ 2 → ⊥) → (get_or s 0 0 ≡ 3 → ⊥) → (get_or s 0 0 ≡ 4 → ⊥) → (get_or s 0 0 ≡ 5 → ⊥) → (get_or s 0 0 ≡ 7 → ⊥)
-        → (o : List ℕ) → Wrote (on_read (λ v. encoded (f v)) (read_value d s)) o (Refused 6)
-    other_way b h₂ h₃ h₄ h₅ h₇ = kind-refused f d s p b 6 (F.of_other _ h₂ h₃ h₄ h₅ h₇)
+        → (o : List ℕ) → Wrote (on_read (λ v. encoded (f v)) (read_value d s)) o (Err Unsuited)
+    other_way b h₂ h₃ h₄ h₅ h₇ = kind-refused f d s p b Unsuited (F.of_other _ h₂ h₃ h₄ h₅ h₇)
 
   -- ---- the ways of a text
 
-  module _ (r : Read (List ℕ)) (t u : List ℕ) (e : r ≡ some (t, u)) (a : SpecialFloat) (h : a ≡ special_of (parse_special_float t)) (o : List ℕ) where
+  module _ (r : Read (List ℕ)) (t u : List ℕ) (e : r ≡ some (t, u)) (a : std.Option ℕ) (h : a ≡ special_of (parse_special_float t)) (o : List ℕ) where
     -- one of the five
-    pub bits-way : (b x : ℕ) → a ≡ Bits b → x ≡ ofFloat b → (z : Answer) → Wrote (encoded (make x)) o z → Wrote (on_read (λ t. encoded (special (λ b. make (ofFloat b)) (parse_special_float t))) r) o z
+    pub bits-way : (b x : ℕ) → a ≡ Some b → x ≡ ofFloat b → (z : std.Result ℕ Refusal) → Wrote (encoded (make x)) o z → Wrote (on_read (λ t. encoded (special (λ b. make (ofFloat b)) (parse_special_float t))) r) o z
     unfolding on_read special
     bits-way b x q i z w = subst (λ y. Wrote y o z) (sym (ap (on_read (λ t. encoded (special (λ b. make (ofFloat b)) (parse_special_float t)))) e ∙ ap encoded (go (parse_special_float t) (sym h ∙ q)))) w
       where
-        go : (y : Option ℕ) → special_of y ≡ Bits b → special (λ b. make (ofFloat b)) y ≡ make x
+        go : (y : Option ℕ) → special_of y ≡ Some b → special (λ b. make (ofFloat b)) y ≡ make x
         go none q = let z : ◌≡◌ {A = ℕ} 0 1 = cc in absurd (omega arith)
         go (some c) q = let k : c ≡ b = cc in ap make (ap ofFloat k ∙ sym i)
 
     -- any other
-    pub none-way : a ≡ NotOne → Wrote (on_read (λ t. encoded (special (λ b. make (ofFloat b)) (parse_special_float t))) r) o (Refused 6)
+    pub none-way : a ≡ None → Wrote (on_read (λ t. encoded (special (λ b. make (ofFloat b)) (parse_special_float t))) r) o (Err Unsuited)
     unfolding special
-    none-way q = wrote-refusal (λ t. special (λ b. make (ofFloat b)) (parse_special_float t)) r t u e o 6 (go (parse_special_float t) (sym h ∙ q))
+    none-way q = wrote-refusal (λ t. special (λ b. make (ofFloat b)) (parse_special_float t)) r t u e o Unsuited (go (parse_special_float t) (sym h ∙ q))
       where
-        go : (y : Option ℕ) → special_of y ≡ NotOne → special (λ b. make (ofFloat b)) y ≡ stop 6
+        go : (y : Option ℕ) → special_of y ≡ None → special (λ b. make (ofFloat b)) y ≡ stop 6
         go none q = refl
         go (some c) q = let z : ◌≡◌ {A = ℕ} 0 1 = cc in absurd (omega arith)

@@ -8,14 +8,15 @@
 
 ghost use Rattle.std.specs.Prelude.{◌*◌, ◌≤◌, length};
 
-use hulmbax::Resolved;
-use streams::tally::{Tally, compared, passed_over};
-use streams::{CanRead, CanWrite, tally};
+use lines::input::Reader;
+use streams::output::Output;
+use streams::tally::Tally;
+use streams::{CanRead, CanWrite};
 
 // A line that is no call is answered with the number 0, which no refusal has.
 const NO_CALL: u8 = 0;
 
-// ---- the call: the answer's bytes go to the front of result
+// ---- the call: the answer's bytes go to the front of result; how many they are, or the refusal's number
 
 // Where the input begins, behind the number of frames and their ends; 0 where there are fewer bytes.
 fn input_at(s: &[u8]) -> usize
@@ -37,22 +38,20 @@ fn read_ends(s: &[u8], ends: &mut [usize]) -> usize
     ensures { result ≤ length ends.old }
 {
     let n = s.len() / 2;
-    let mut i: usize = 0;
-    while i < n {
+    for i in 0..n {
         ends[i] = number::read2(s, 2 * i) as usize;
-        i += 1;
     }
-    i
+    n
 }
 
-fn called(s: &[u8], res: &mut [u8], workspace: &mut [u8]) -> Resolved {
+fn called(s: &[u8], res: &mut [u8], workspace: &mut [u8]) -> Result<usize, u8> {
     let at = input_at(s);
     if at < 1 {
-        return Resolved::Refused(NO_CALL);
+        return Err(NO_CALL);
     }
     let mut ends = [0usize; 256];
     let n = read_ends(&s[1..at], &mut ends);
-    hulmbax::current(&s[at..], &ends[0..n], res, workspace)
+    hulmbax::current(&s[at..], &ends[0..n], res, workspace).map_err(|e| e.number())
 }
 
 // ---- lines
@@ -96,13 +95,13 @@ fn refused(number: u8, out: &mut [u8]) -> usize
     n + 1
 }
 
-fn told(r: Resolved, bytes: &[u8], out: &mut [u8]) -> usize
+fn told(r: Result<usize, u8>, bytes: &[u8], out: &mut [u8]) -> usize
     requires { (2 * length bytes.now ≤ length out.old) × (3 ≤ length out.old) }
     ensures { result ≤ length out.old }
 {
     match r {
-        Resolved::Accepted(n) => named(bytes, n, out),
-        Resolved::Refused(e) => refused(e, out),
+        Ok(n) => named(bytes, n, out),
+        Err(e) => refused(e, out),
     }
 }
 
@@ -115,61 +114,56 @@ fn is_expected(s: &[u8], expected: &[u8], workspace: &mut [u8]) -> bool {
     text::same(&text[0..n], expected)
 }
 
-// The place of the first space; past the line where there is none.
-fn space(line: &[u8]) -> usize {
-    let mut i: usize = 0;
-    while i < line.len() {
-        if line[i] == b' ' {
-            return i;
-        }
-        i += 1;
-    }
-    i
+// The place of the first space; the line's end where there is none.
+fn space(line: &[u8]) -> usize
+    ensures { result ≤ length line.now }
+{
+    line.iter().position(|c| *c == b' ').unwrap_or(line.len())
 }
 
 // A line: a space stands behind the call's bytes.
 fn counted(
-    rt: &impl CanWrite,
     t: Tally,
     line: &[u8],
     room: &mut [u8],
     workspace: &mut [u8],
+    out: &mut Output<'_, impl CanWrite>,
 ) -> Tally {
     let n = line.len();
     if n < 1 {
-        return compared(rt, t, false);
+        return t.compared(false, out);
     }
     if line[0] == b'#' {
-        return passed_over(t);
+        return t.passed_over();
     }
     let e = space(line);
     if n <= e {
-        return compared(rt, t, false);
+        return t.compared(false, out);
     }
     let k = lines::frame(&line[0..e], room);
     let after = e + 1;
-    compared(rt, t, is_expected(&room[0..k], &line[after..], workspace))
+    t.compared(is_expected(&room[0..k], &line[after..], workspace), out)
 }
 
-// A proved loop has to end, and nothing says that the input does. So the turns are counted down from a number that no run uses up.
-fn all(
-    rt: &(impl CanRead + CanWrite),
+// The list, up to its end or the first write that fails.
+// A proved loop has to end, and nothing says that the input does. So there are as many turns as no run uses up.
+fn all<R: CanRead + CanWrite>(
+    rt: &R,
     block: &mut [u8],
     line: &mut [u8],
     room: &mut [u8],
     workspace: &mut [u8],
+    out: &mut Output<'_, R>,
 ) -> Tally {
-    let mut r = lines::input::start();
-    let mut t = tally::start();
-    let mut turns = u64::MAX;
-    while turns > 0 {
+    let mut r = Reader::start();
+    let mut t = Tally::start();
+    for _ in 0..u64::MAX {
         r = streams::input::next(rt, r, block, line);
-        if !r.whole || !t.ok {
+        if !r.whole || !out.ok {
             return t;
         }
         let n = r.filled;
-        t = counted(rt, t, &line[0..n], room, workspace);
-        turns -= 1;
+        t = counted(t, &line[0..n], room, workspace, out);
     }
     t
 }
@@ -186,6 +180,14 @@ fn main(rt: HostRuntime) {
     let mut line = [0u8; 4096];
     let mut room = [0u8; 2048];
     let mut workspace = [0u8; 65536];
-    let t = all(&rt, &mut block, &mut line, &mut room, &mut workspace);
-    tally::report(&rt, t, b" answers");
+    let mut out = Output::new(&rt);
+    let t = all(
+        &rt,
+        &mut block,
+        &mut line,
+        &mut room,
+        &mut workspace,
+        &mut out,
+    );
+    t.report(b" answers", &mut out);
 }

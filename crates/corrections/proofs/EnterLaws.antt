@@ -14,7 +14,8 @@ use Rattle.current.specs.Entering.{entered_by, place_of}
 use Rattle.current.specs.Claims.{sails_of}
 use Rattle.current.proofs.Entering.{listed-append, place_inside, entered-new, entered-old}
 use Rattle.corrections.specs.Named.{places}
-use Rattle.corrections.specs.Tables.{sail_at, row, rows, chosen, sails_at, Below}
+use Rattle.corrections.specs.declared.Row.{Row}
+use Rattle.corrections.specs.Tables.{row_at, sail_at, row, rows, chosen, sails_at, Below}
 use Rattle.corrections.proofs.ReadingLaws.{rows_more}
 
 -- ---- places below n
@@ -41,17 +42,17 @@ below_at n [] k h l = absurd (omega (arith, l))
 below_at n (p ∷ ps) zero h l = h.0
 below_at n (p ∷ ps) (suc k) h l = below_at n ps k h.1 (omega (arith, l))
 
-module _ (input starts stops seqs : List ℕ) where
+module _ (input : List ℕ) (table : List Row) where
   abbrev listing : List ℕ → List Finish
-  listing ps = chosen input starts stops seqs ps
+  listing ps = chosen input table ps
 
   abbrev one : ℕ → Finish
-  one k = row input starts stops seqs k
+  one k = row input table k
 
-  chosen-sails : (ps : List ℕ) → sails_of (listing ps) ≡ sails_at input starts stops ps
+  chosen-sails : (ps : List ℕ) → sails_of (listing ps) ≡ sails_at input table ps
   unfolding chosen sails_at row
   chosen-sails [] = refl
-  chosen-sails (p ∷ ps) = ap (λ (l : List Text). sail_at input starts stops p ∷ l) (chosen-sails ps)
+  chosen-sails (p ∷ ps) = ap (λ (l : List Text). sail_at input table p ∷ l) (chosen-sails ps)
 
   chosen-append : (ps qs : List ℕ) → listing (ps ++ qs) ≡ listing ps ++ listing qs
   unfolding chosen
@@ -66,11 +67,11 @@ module _ (input starts stops seqs : List ℕ) where
 
   length-chosen : (ps : List ℕ) → length (listing ps) ≡ length ps
   unfolding chosen
-  length-chosen ps = length-map ps (row input starts stops seqs)
+  length-chosen ps = length-map ps (row input table)
 
   chosen_at : (ps : List ℕ) (k : ℕ) → get_or (listing ps) k (one 0) ≡ one (get_or ps k 0)
   unfolding chosen
-  chosen_at ps k = get_or-map (row input starts stops seqs) ps k 0
+  chosen_at ps k = get_or-map (row input table) ps k 0
 
   pub chosen-places : (ps : List ℕ) → places (listing ps) ≡ ps
   unfolding chosen places row
@@ -80,13 +81,13 @@ module _ (input starts stops seqs : List ℕ) where
   -- ---- frame i behind the `count` places of out
 
   module _ (out : List ℕ) (count i k : ℕ) (size : length out ≡ 256) (few : count ≤ i) (room : i < 256) (below : Below i (take count out))
-      (at : k ≡ place_of (sails_at input starts stops (take count out)) (sail_at input starts stops i)) where
+      (at : k ≡ place_of (sails_at input table (take count out)) (sail_at input table i)) where
     taken : length (take count out) ≡ count
     taken = length-take-le count out (omega (arith, size))
 
     place_is : place_of (sails_of (listing (take count out))) (one i).sail ≡ k
     unfolding row
-    place_is = ap (λ (l : List Text). place_of l (sail_at input starts stops i)) (chosen-sails (take count out)) ∙ sym at
+    place_is = ap (λ (l : List Text). place_of l (sail_at input table i)) (chosen-sails (take count out)) ∙ sym at
 
     pub place-within : k ≤ count
     place-within = omega (arith, place_inside (sails_of (listing (take count out))) (one i).sail, place_is, length-map (listing (take count out)) (λ (f : Finish). f.sail), length-chosen (take count out), taken)
@@ -117,14 +118,14 @@ module _ (input starts stops seqs : List ℕ) where
       pub named-below : get_or out k 0 < i
       named-below = omega (arith, below_at i (take count out) k below (omega (arith, place-below, taken)), get_or-take count out k 0 place-below)
 
-      old : entered_by beats (listing (take count out)) (one i) ≡ (when beats (get_or seqs i 0) (get_or seqs (get_or out k 0) 0) then set (listing (take count out)) k (one i) else listing (take count out))
+      old : entered_by beats (listing (take count out)) (one i) ≡ (when beats (row_at table i).finish.rank (row_at table (get_or out k 0)).finish.rank then set (listing (take count out)) k (one i) else listing (take count out))
       unfolding row
       old =
           entered-old beats (listing (take count out)) (one i) (one 0) (omega (arith, place_is, place-below, length-chosen (take count out), taken))
-          ∙ ap (λ (m : ℕ). when beats (get_or seqs i 0) (get_or (listing (take count out)) m (one 0)).seq then set (listing (take count out)) m (one i) else listing (take count out)) place_is
-          ∙ ap (λ (f : Finish). when beats (get_or seqs i 0) f.seq then set (listing (take count out)) k (one i) else listing (take count out)) named
+          ∙ ap (λ (m : ℕ). when beats (row_at table i).finish.rank (get_or (listing (take count out)) m (one 0)).seq then set (listing (take count out)) m (one i) else listing (take count out)) place_is
+          ∙ ap (λ (f : Finish). when beats (row_at table i).finish.rank f.seq then set (listing (take count out)) k (one i) else listing (take count out)) named
 
-      pub entered-over : beats (get_or seqs i 0) (get_or seqs (get_or out k 0) 0) ≡ true → Entered count (set out k i)
+      pub entered-over : beats (row_at table i).finish.rank (row_at table (get_or out k 0)).finish.rank ≡ true → Entered count (set out k i)
       entered-over w =
           let q : take count (set out k i) ≡ set (take count out) k i = take-set-lt count out k i place-below in (
             omega arith,
@@ -133,7 +134,7 @@ module _ (input starts stops seqs : List ℕ) where
             ap listing q ∙ chosen-set (take count out) k i ∙ sym (old ∙ ap (λ (b : Bool). when b then set (listing (take count out)) k (one i) else listing (take count out)) w),
           )
 
-      pub entered-kept : beats (get_or seqs i 0) (get_or seqs (get_or out k 0) 0) ≡ false → Entered count out
+      pub entered-kept : beats (row_at table i).finish.rank (row_at table (get_or out k 0)).finish.rank ≡ false → Entered count out
       entered-kept w = (
         omega arith,
         size,
@@ -148,7 +149,7 @@ module _ (input starts stops seqs : List ℕ) where
     pub few : count ≤ i
     pub size : length out ≡ 256
     pub below : Below i (take count out)
-    pub so_far : listing (take count out) ≡ listed (rows input starts stops seqs i)
+    pub so_far : listing (take count out) ≡ listed (rows input table i)
 
   pub listing_start : (n : ℕ) (out : List ℕ) → length out ≡ 256 → Listing n out 0 0
   unfolding Below chosen rows listed_by
@@ -164,14 +165,14 @@ module _ (input starts stops seqs : List ℕ) where
     below = e.2;
     so_far = e.3
         ∙ ap (λ (l : List Finish). entered_by beats l (one i)) w.so_far
-        ∙ sym (listed-append beats (rows input starts stops seqs i) (one i))
-        ∙ ap listed (sym (rows_more input starts stops seqs i));
+        ∙ sym (listed-append beats (rows input table i) (one i))
+        ∙ ap listed (sym (rows_more input table i));
   }
 
-  pub listing-end : (n : ℕ) (out : List ℕ) (count i : ℕ) → Listing n out count i → n ≤ i → (count ≤ n) × (length out ≡ 256) × (take count out ≡ places (listed (rows input starts stops seqs n)))
+  pub listing-end : (n : ℕ) (out : List ℕ) (count i : ℕ) → Listing n out count i → n ≤ i → (count ≤ n) × (length out ≡ 256) × (take count out ≡ places (listed (rows input table n)))
   listing-end n out count i w h =
       let e : i ≡ n = omega (arith, w.inside) in (
         omega (arith, w.few, e),
         w.size,
-        sym (chosen-places (take count out)) ∙ ap places (w.so_far ∙ ap (λ (k : ℕ). listed (rows input starts stops seqs k)) e),
+        sym (chosen-places (take count out)) ∙ ap places (w.so_far ∙ ap (λ (k : ℕ). listed (rows input table k)) e),
       )

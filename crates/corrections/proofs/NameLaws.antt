@@ -10,31 +10,31 @@ use lib.Seq.{length-take-le}
 use borrow.Author.Tests.{lt-ltb, le-ltb}
 use Rattle.base.specs.Base.{when◌then◌else◌, Result, ok, stop}
 use Rattle.buffer.specs.After.{buffer_after, checked_result}
-use Rattle.buffer.specs.declared.Answer.TheVariants.{Accepted, Refused}
 use Rattle.buffer.proofs.AfterLaws.{checked_result-short, checked_result-fits}
 use Rattle.lists.specs.Frames.{frames}
 use Rattle.current.specs.Current.{Finish, listed}
 use Rattle.corrections.specs.Named.{finishes, places, names_of, names_for, answer_of}
+use Rattle.corrections.specs.declared.Row.{Row}
 use Rattle.corrections.specs.Tables.{rows, Filled, Told}
 
-pub told-true : (b : Bool) (o : Option (List Finish)) (input starts stops hashes seqs : List ℕ) (n : ℕ) → b ≡ true → Told b o input starts stops hashes seqs n
-    → (o ≡ some (rows input starts stops seqs n)) × Filled input starts stops hashes n
+pub told-true : (b : Bool) (o : Option (List Finish)) (input : List ℕ) (table : List Row) (n : ℕ) → b ≡ true → Told b o input table n
+    → (o ≡ some (rows input table n)) × Filled input table n
 unfolding Told
-told-true true o input starts stops hashes seqs n e t = t
-told-true false o input starts stops hashes seqs n e t = let z : ◌≡◌ {A = ℕ} 0 1 = cc in absurd (omega arith)
+told-true true o input table n e t = t
+told-true false o input table n e t = let z : ◌≡◌ {A = ℕ} 0 1 = cc in absurd (omega arith)
 
-pub told-false : (b : Bool) (o : Option (List Finish)) (input starts stops hashes seqs : List ℕ) (n : ℕ) → b ≡ false → Told b o input starts stops hashes seqs n → o ≡ none
+pub told-false : (b : Bool) (o : Option (List Finish)) (input : List ℕ) (table : List Row) (n : ℕ) → b ≡ false → Told b o input table n → o ≡ none
 unfolding Told
-told-false true o input starts stops hashes seqs n e t = let z : ◌≡◌ {A = ℕ} 0 1 = cc in absurd (omega arith)
-told-false false o input starts stops hashes seqs n e t = t
+told-false true o input table n e t = let z : ◌≡◌ {A = ℕ} 0 1 = cc in absurd (omega arith)
+told-false false o input table n e t = t
 
-stopped : (x : Result (List ℕ)) (k : ℕ) (b : List ℕ) → x ≡ stop k → (Refused k ≡ answer_of x) × (b ≡ buffer_after x b)
+stopped : (x : Result (List ℕ)) (k : ℕ) (b : List ℕ) → x ≡ stop k → (stop k ≡ answer_of x) × (b ≡ buffer_after x b)
 unfolding answer_of buffer_after
 stopped x k b e = rw e (refl, refl)
 
-accepted : (x : Result (List ℕ)) (r b b' : List ℕ) (n : ℕ) → x ≡ ok r → n ≡ length r → b' ≡ r ++ drop (length r) b → (Accepted n ≡ answer_of x) × (b' ≡ buffer_after x b)
+accepted : (x : Result (List ℕ)) (r b b' : List ℕ) (n : ℕ) → x ≡ ok r → n ≡ length r → b' ≡ r ++ drop (length r) b → (ok n ≡ answer_of x) × (b' ≡ buffer_after x b)
 unfolding answer_of buffer_after
-accepted x r b b' n e l q = rw e (ap Accepted l, q)
+accepted x r b b' n e l q = rw e (ap ok l, q)
 
 -- 23, and what follows it
 module _ (input ends : List ℕ) (buffer : ℕ) where
@@ -53,11 +53,11 @@ module _ (input ends b : List ℕ) where
   abbrev answer : Result (List ℕ)
   answer = names_for input ends (length b)
 
-  pub many : 256 < length ends → (Refused 23 ≡ answer_of answer) × (b ≡ buffer_after answer b)
+  pub many : 256 < length ends → (stop 23 ≡ answer_of answer) × (b ≡ buffer_after answer b)
   many h = stopped answer 23 b (names-many input ends (length b) h)
 
   module _ (h : length ends ≤ 256) where
-    pub broken : finishes 0 (frames input ends) ≡ none → (Refused 24 ≡ answer_of answer) × (b ≡ buffer_after answer b)
+    pub broken : finishes 0 (frames input ends) ≡ none → (stop 24 ≡ answer_of answer) × (b ≡ buffer_after answer b)
     unfolding names_of
     broken e = stopped answer 24 b (names-few input ends (length b) h ∙ ap (names_of (length b)) e)
 
@@ -72,10 +72,10 @@ module _ (input ends b : List ℕ) where
       unfolding names_of
       checked = names-few input ends (length b) h ∙ ap (names_of (length b)) e
 
-      pub too_long : length b < n → (Refused 18 ≡ answer_of answer) × (b ≡ buffer_after answer b)
+      pub too_long : length b < n → (stop 18 ≡ answer_of answer) × (b ≡ buffer_after answer b)
       too_long g = stopped answer 18 b (checked ∙ checked_result-short (length b) (places (listed fs)) (omega (arith, long, l.0)) (omega (arith, long)))
 
-      pub done : (b' : List ℕ) → n ≤ length b → b' ≡ take n out ++ drop (length (take n out)) b → (Accepted n ≡ answer_of answer) × (b' ≡ buffer_after answer b)
+      pub done : (b' : List ℕ) → n ≤ length b → b' ≡ take n out ++ drop (length (take n out)) b → (ok n ≡ answer_of answer) × (b' ≡ buffer_after answer b)
       done b' g c =
           accepted answer (places (listed fs)) b b' n
           (checked ∙ checked_result-fits (length b) (places (listed fs)) (omega (arith, long, l.0)) (omega (arith, long)))

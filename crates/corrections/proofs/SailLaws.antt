@@ -12,7 +12,8 @@ use Rattle.text.specs.Text.{Text, same}
 use Rattle.text.specs.Hash.{hash}
 use Rattle.current.specs.Entering.{place_of}
 use Rattle.current.proofs.Sails.{same-is}
-use Rattle.corrections.specs.Tables.{sail_at, sails_at, Stands, Filled, Placed, Below}
+use Rattle.corrections.specs.declared.Row.{Row}
+use Rattle.corrections.specs.Tables.{sail_at, sails_at, HasRow, Filled, Placed, Below}
 
 -- texts of other hashes differ
 pub hashes-differ : (x y : Text) (h k : ℕ) → h ≡ hash x → k ≡ hash y → (h ≡ k → ⊥) → false ≡ same x y
@@ -24,13 +25,13 @@ hashes-differ x y h k p q n = go (same x y) refl
 
 -- ---- the rows of places
 
-module _ (input starts stops hashes : List ℕ) where
-  pub placed_below : (n : ℕ) (ps : List ℕ) → Filled input starts stops hashes n → Below n ps → Placed input starts stops hashes ps
+module _ (input : List ℕ) (table : List Row) where
+  pub placed_below : (n : ℕ) (ps : List ℕ) → Filled input table n → Below n ps → Placed input table ps
   unfolding Placed Below
   placed_below n [] f b = tt
   placed_below n (p ∷ ps) f b = (f p b.0, placed_below n ps f b.1)
 
-  pub placed_at : (ps : List ℕ) (k : ℕ) → Placed input starts stops hashes ps → k < length ps → Stands input starts stops hashes (get_or ps k 0)
+  pub placed_at : (ps : List ℕ) (k : ℕ) → Placed input table ps → k < length ps → HasRow input table (get_or ps k 0)
   unfolding Placed
   placed_at [] k h l = absurd (omega (arith, l))
   placed_at (p ∷ ps) zero h l = h.0
@@ -38,36 +39,36 @@ module _ (input starts stops hashes : List ℕ) where
 
 -- ---- the loop over them: k places passed, none of which has the sail
 
-module _ (input starts stops ps : List ℕ) (x : Text) where
+module _ (input : List ℕ) (table : List Row) (ps : List ℕ) (x : Text) where
   abbrev left : ℕ → ℕ
-  left k = place_of (sails_at input starts stops (drop k ps)) x
+  left k = place_of (sails_at input table (drop k ps)) x
 
   pub record Passed (k : ℕ) : Type 0 where
     pub inside : k ≤ length ps
-    pub rest : k + left k ≡ place_of (sails_at input starts stops ps) x
+    pub rest : k + left k ≡ place_of (sails_at input table ps) x
 
   pub passed_none : Passed 0
   passed_none = record { inside = omega arith; rest = omega arith }
 
   module _ (k : ℕ) (w : Passed k) where
-    test : k < length ps → left k ≡ (when same x (sail_at input starts stops (get_or ps k 0)) then 0 else suc (left (k + 1)))
+    test : k < length ps → left k ≡ (when same x (sail_at input table (get_or ps k 0)) then 0 else suc (left (k + 1)))
     unfolding place_of sails_at
     test h =
-        ap (λ (l : List ℕ). place_of (sails_at input starts stops l) x) (drop-cons ps k 0 h)
-        ∙ ap (λ (m : ℕ). when same x (sail_at input starts stops (get_or ps k 0)) then 0 else suc (left m)) (sym (add-one k))
+        ap (λ (l : List ℕ). place_of (sails_at input table l) x) (drop-cons ps k 0 h)
+        ∙ ap (λ (m : ℕ). when same x (sail_at input table (get_or ps k 0)) then 0 else suc (left m)) (sym (add-one k))
 
-    pub passed_here : k < length ps → same x (sail_at input starts stops (get_or ps k 0)) ≡ true → k ≡ place_of (sails_at input starts stops ps) x
+    pub passed_here : k < length ps → same x (sail_at input table (get_or ps k 0)) ≡ true → k ≡ place_of (sails_at input table ps) x
     passed_here h e =
         let z : left k ≡ 0 = test h ∙ ap (λ (b : Bool). when b then 0 else suc (left (k + 1))) e in
         omega (arith, z, w.rest)
 
-    pub passed-next : k < length ps → same x (sail_at input starts stops (get_or ps k 0)) ≡ false → Passed (k + 1)
+    pub passed-next : k < length ps → same x (sail_at input table (get_or ps k 0)) ≡ false → Passed (k + 1)
     passed-next h e =
         let z : left k ≡ suc (left (k + 1)) = test h ∙ ap (λ (b : Bool). when b then 0 else suc (left (k + 1))) e in
         record { inside = omega arith; rest = omega (arith, z, w.rest) }
 
-    pub passed-all : length ps ≤ k → k ≡ place_of (sails_at input starts stops ps) x
+    pub passed-all : length ps ≤ k → k ≡ place_of (sails_at input table ps) x
     unfolding place_of sails_at
     passed-all h =
-        let z : left k ≡ 0 = ap (λ (l : List ℕ). place_of (sails_at input starts stops l) x) (drop_of_length-le ps h) in
+        let z : left k ≡ 0 = ap (λ (l : List ℕ). place_of (sails_at input table l) x) (drop_of_length-le ps h) in
         omega (arith, z, w.rest)

@@ -5,8 +5,6 @@ use Rattle.base.specs.Base.{when◌then◌else◌, Result, ok, stop}
 use Rattle.text.specs.Text.{Text}
 use Rattle.text.specs.Read.{◌>>=◌}
 use Rattle.buffer.specs.After.{checked_result}
-use Rattle.buffer.specs.declared.Answer.{Answer}
-use Rattle.buffer.specs.declared.Answer.TheVariants.{Accepted, Refused}
 use Rattle.lists.specs.Frames.{frames}
 use Rattle.finishes.specs.Finish.{finish_of}
 use Rattle.current.specs.Current.{Finish, listed}
@@ -36,6 +34,6 @@ unfoldable pub names_for : List ℕ → List ℕ → ℕ → Result (List ℕ)
 names_for input ends buffer = when ltb 256 (length ends) then stop 23 else names_of buffer (finishes 0 (frames input ends))
 
 -- the number and length of each case
-unfoldable pub answer_of : Result (List ℕ) → Answer
-answer_of (ok r) = Accepted (length r)
-answer_of (stop n) = Refused n
+unfoldable pub answer_of : Result (List ℕ) → Result ℕ
+answer_of (ok r) = ok (length r)
+answer_of (stop n) = stop n

@@ -1,53 +1,64 @@
--- What the tables of the entry say: where each frame's sail stands in the input, the sail's hash, and its seq.
+-- What the table of the entry says: where each frame's sail stands in the input, the sail's hash, and its seq.
 use Rattle.std.specs.Prelude.{ℕ, zero, suc, ◌-◌, ◌≤◌, ◌<◌, ◌≡◌, List, [], ◌∷◌, ◌++◌, map, Bool, true, false, length, get_or, take, drop}
 use Rattle.std.proofs.Math.Option.{Option, none, some}
 use Rattle.text.specs.Text.{Text}
 use Rattle.text.specs.Hash.{hash}
 use Rattle.current.specs.Current.{Finish}
+use Rattle.corrections.specs.declared.Row.{Row}
+
+-- row k of a table; behind its end, a row of zeros
+abbrev pub row_at : List Row → ℕ → Row
+row_at table k = get_or table k (record { finish = record { from = 0; to = 0; rank = 0 }; hash = 0 })
+
+-- the sail of a row
+unfoldable pub sail_of : List ℕ → Row → Text
+sail_of input r = take (r.finish.to - r.finish.from) (drop r.finish.from input)
 
 -- the sail of frame k
-unfoldable pub sail_at : List ℕ → List ℕ → List ℕ → ℕ → Text
-sail_at input starts stops k = take (get_or stops k 0 - get_or starts k 0) (drop (get_or starts k 0) input)
+abbrev pub sail_at : List ℕ → List Row → ℕ → Text
+sail_at input table k = sail_of input (row_at table k)
 
 -- the finish of frame k
-unfoldable pub row : List ℕ → List ℕ → List ℕ → List ℕ → ℕ → Finish
-row input starts stops seqs k = record { place = k; sail = sail_at input starts stops k; seq = get_or seqs k 0 }
+unfoldable pub row : List ℕ → List Row → ℕ → Finish
+row input table k = record { place = k; sail = sail_at input table k; seq = (row_at table k).finish.rank }
 
 -- the first n rows
-unfoldable pub rows : List ℕ → List ℕ → List ℕ → List ℕ → ℕ → List Finish
-rows input starts stops seqs zero = []
-rows input starts stops seqs (suc n) = rows input starts stops seqs n ++ row input starts stops seqs n ∷ []
+unfoldable pub rows : List ℕ → List Row → ℕ → List Finish
+rows input table zero = []
+rows input table (suc n) = rows input table n ++ row input table n ∷ []
 
 -- the rows of some places
-unfoldable pub chosen : List ℕ → List ℕ → List ℕ → List ℕ → List ℕ → List Finish
-chosen input starts stops seqs ps = map (row input starts stops seqs) ps
+unfoldable pub chosen : List ℕ → List Row → List ℕ → List Finish
+chosen input table ps = map (row input table) ps
 
 -- the sails of some places
-unfoldable pub sails_at : List ℕ → List ℕ → List ℕ → List ℕ → List Text
-sails_at input starts stops ps = map (sail_at input starts stops) ps
+unfoldable pub sails_at : List ℕ → List Row → List ℕ → List Text
+sails_at input table ps = map (sail_at input table) ps
 
--- the tables have row k: its sail lies in the input, and its hash is the one noted
-pub record Stands (input starts stops hashes : List ℕ) (k : ℕ) : Type 0 where
-  pub starts_long : k < length starts
-  pub stops_long : k < length stops
-  pub hashes_long : k < length hashes
-  pub ordered : get_or starts k 0 ≤ get_or stops k 0
-  pub inside : get_or stops k 0 ≤ length input
-  pub hashed : get_or hashes k 0 ≡ hash (sail_at input starts stops k)
+-- a row's sail lies in the input, and its hash is the one noted
+pub record Stands (input : List ℕ) (r : Row) : Type 0 where
+  pub ordered : r.finish.from ≤ r.finish.to
+  pub inside : r.finish.to ≤ length input
+  pub hashed : r.hash ≡ hash (sail_of input r)
 
--- they have n rows
-abbrev pub Filled : List ℕ → List ℕ → List ℕ → List ℕ → ℕ → Type 0
-Filled input starts stops hashes n = (k : ℕ) → k < n → Stands input starts stops hashes k
+-- the table has row k
+pub record HasRow (input : List ℕ) (table : List Row) (k : ℕ) : Type 0 where
+  pub there : k < length table
+  pub stands : Stands input (row_at table k)
 
--- they have the rows of some places
-unfoldable pub Placed : List ℕ → List ℕ → List ℕ → List ℕ → List ℕ → Type 0
-Placed input starts stops hashes [] = Unit {0}
-Placed input starts stops hashes (p ∷ ps) = Stands input starts stops hashes p × Placed input starts stops hashes ps
+-- it has n rows
+abbrev pub Filled : List ℕ → List Row → ℕ → Type 0
+Filled input table n = (k : ℕ) → k < n → HasRow input table k
 
--- all frames were read into the tables, or one is refused
-unfoldable pub Told : Bool → Option (List Finish) → List ℕ → List ℕ → List ℕ → List ℕ → List ℕ → ℕ → Type 0
-Told true o input starts stops hashes seqs n = (o ≡ some (rows input starts stops seqs n)) × Filled input starts stops hashes n
-Told false o input starts stops hashes seqs n = o ≡ none
+-- it has the rows of some places
+unfoldable pub Placed : List ℕ → List Row → List ℕ → Type 0
+Placed input table [] = Unit {0}
+Placed input table (p ∷ ps) = HasRow input table p × Placed input table ps
+
+-- all frames were read into the table, or one is refused
+unfoldable pub Told : Bool → Option (List Finish) → List ℕ → List Row → ℕ → Type 0
+Told true o input table n = (o ≡ some (rows input table n)) × Filled input table n
+Told false o input table n = o ≡ none
 
 -- places below n
 unfoldable pub Below : ℕ → List ℕ → Type 0

@@ -10,7 +10,10 @@ use lib.ListN.{length, get_or, drop, length-drop}
 use lib.Seq.{drop-drop}
 use lib.Ieee.Fits.{and_l, and_r}
 use borrow.Author.Tests.{le-leb, lt-leb, leb-true, leb-false, ne_eqb}
+use Rattle.std.specs.Prelude.{Some, None, Ok, Err}
+use Rattle.std.specs.Bool.{then_some}
 use Rattle.base.specs.Base.{ok, stop, after}
+use Rattle.base.specs.declared.refusal.Refusal.{Refusal}
 use Rattle.number.specs.Number.{bytes_of}
 use Rattle.frame.specs.Tree.{Value, Schema, Variants, variant, is, kind_of, peel, schema_kind}
 use Rattle.frame.specs.ValueFrame.{contents, read_value, encode_value, write_scalar}
@@ -22,7 +25,6 @@ use Rattle.frame.proofs.SchemaNodes.{schema-there, schema-kind}
 use Rattle.types.specs.Types.{Outcome}
 use Rattle.types.specs.Contract.{encoded, on_both}
 use Rattle.buffer.specs.Built.{Built, Wrote}
-use Rattle.buffer.specs.declared.Answer.TheVariants.{Accepted, Refused}
 use Rattle.schema.specs.Parts.{field_sound}
 use Rattle.avro.specs.Resolve.{resolve, start_default}
 use Rattle.avro.specs.Defaults.{defaults_short, short_default, short_start}
@@ -32,7 +34,7 @@ use Rattle.walk.specs.Contract.{node_bytes}
 use Rattle.variants.specs.Ways.{Ready}
 use Rattle.defaults.specs.Shortness.{SoundRead, test_read, ShortLen, field_short}
 use Rattle.field.specs.declared.FieldAt.{FieldAt}
-use Rattle.defaults.proofs.SoundParts.{test-some, zero-fails, some-passes, some-spans, len-le, fails-zero, passes-len, short-ready}
+use Rattle.defaults.proofs.SoundParts.{test-some, len-le, short-ready}
 use Rattle.variants.proofs.UnionReading.{ready-reads}
 use Rattle.walk.proofs.Pieces.{both_some}
 use Rattle.walk.proofs.FieldBytes.{Given, default-given, default_none}
@@ -75,12 +77,12 @@ capped n m e = go (leb m 4096) refl
     go true q = let h = leb-true m 4096 q in le-leb n 4096 (omega (arith, h, e))
     go false q = let h = leb-false m 4096 q in lt-leb n 4096 (omega (arith, h, e))
 
-outcome-accepted : (x : Outcome) (o : List ℕ) (n : ℕ) → Wrote (encoded x) o (Accepted n) → leb n 4096 ≡ short_start (after x (λ r. ok (Value.Union 0 r)))
+outcome-accepted : (x : Outcome) (o : List ℕ) (n : ℕ) → Wrote (encoded x) o (Ok n) → leb n 4096 ≡ short_start (after x (λ r. ok (Value.Union 0 r)))
 unfolding Wrote Built encoded short_start after kind_of peel
 outcome-accepted (ok v) o n w = capped n (length (encode_value v)) w.0
 outcome-accepted (stop k) o n w = absurd w
 
-outcome-refused : (x : Outcome) (o : List ℕ) (k : ℕ) → Wrote (encoded x) o (Refused k) → true ≡ short_start (after x (λ r. ok (Value.Union 0 r)))
+outcome-refused : (x : Outcome) (o : List ℕ) (k : Refusal) → Wrote (encoded x) o (Err k) → true ≡ short_start (after x (λ r. ok (Value.Union 0 r)))
 unfolding Wrote encoded short_start after
 outcome-refused (ok v) o k w = absurd w
 outcome-refused (stop j) o k w = refl
@@ -112,13 +114,13 @@ module _ (d : ℕ) (s v : List ℕ) (w : Ready d s) (g : SoundRead default_kinds
       unfolding node_bytes
       bytes-are = let f = first_variant d s w e in both_some node_bytes _ _ f.lead g.tree f.rest g.rest f.reads g.reads
 
-      pub accepted-short : (n : ℕ) → Wrote (on_both node_bytes (read_schema (d - 1) (drop 3 s)) (read_value 16 v)) o (Accepted n)
+      pub accepted-short : (n : ℕ) → Wrote (on_both node_bytes (read_schema (d - 1) (drop 3 s)) (read_value 16 v)) o (Ok n)
           → leb n 4096 ≡ short_start (on_both start_default (read_schema d s) (read_value 16 v))
-      accepted-short n q = outcome-accepted _ o n (subst (λ x. Wrote x o (Accepted n)) bytes-are q) ∙ sym tried-is
+      accepted-short n q = outcome-accepted _ o n (subst (λ x. Wrote x o (Ok n)) bytes-are q) ∙ sym tried-is
 
-      pub refused-short : (k : ℕ) → Wrote (on_both node_bytes (read_schema (d - 1) (drop 3 s)) (read_value 16 v)) o (Refused k)
+      pub refused-short : (k : Refusal) → Wrote (on_both node_bytes (read_schema (d - 1) (drop 3 s)) (read_value 16 v)) o (Err k)
           → true ≡ short_start (on_both start_default (read_schema d s) (read_value 16 v))
-      refused-short k q = outcome-refused _ o k (subst (λ x. Wrote x o (Refused k)) bytes-are q) ∙ sym tried-is
+      refused-short k q = outcome-refused _ o k (subst (λ x. Wrote x o (Err k)) bytes-are q) ∙ sym tried-is
 
 -- ---- a field
 
@@ -136,61 +138,59 @@ module _ (d : ℕ) (s : List ℕ) (f : FieldAt) (w : SoundRead field_sound (read
   field-by : test_read field_short (read_field (read_schema d) s) ≡ (short_default g.tree g.default && test_read defaults_short (read_schema d (drop f.schema_at s)))
   field-by = field-whole ∙ ap (λ x. short_default g.tree g.default && x) (sym (test-some defaults_short _ g.tree g.rest g.schema_at))
 
-  module _ (n : ℕ) (v : ShortLen defaults_short (read_schema d (drop f.schema_at s)) (drop f.schema_at s) n) where
-    pub inner-long : n ≡ 0 → ShortLen field_short (read_field (read_schema d) s) s 0
-    inner-long e =
-        fails-zero field_short _ s
-        (field-by ∙ ap (λ x. short_default g.tree g.default && x) (zero-fails defaults_short _ _ n v e) ∙ and-false (short_default g.tree g.default))
+  pub inner-long : ShortLen defaults_short (read_schema d (drop f.schema_at s)) (drop f.schema_at s) None → ShortLen field_short (read_field (read_schema d) s) s None
+  unfolding ShortLen
+  inner-long v = field-by ∙ ap (λ x. short_default g.tree g.default && x) v ∙ and-false (short_default g.tree g.default)
 
+  module _ (n : ℕ) (v : ShortLen defaults_short (read_schema d (drop f.schema_at s)) (drop f.schema_at s) (Some n)) where
     pub field-inside : f.schema_at + n ≤ length s
     field-inside = omega (arith, g.inside, len-le defaults_short _ _ n v, length-drop f.schema_at s)
 
-    module _ (q : n ≡ 0 → ⊥) where
-      inner-short : test_read defaults_short (read_schema d (drop f.schema_at s)) ≡ true
-      inner-short = some-passes defaults_short _ _ n v q
+    inner-short : test_read defaults_short (read_schema d (drop f.schema_at s)) ≡ true
+    unfolding ShortLen
+    inner-short = v.0
 
-      own : test_read field_short (read_field (read_schema d) s) ≡ short_default g.tree g.default
-      own = field-by ∙ ap (λ x. short_default g.tree g.default && x) inner-short ∙ and-true (short_default g.tree g.default)
+    own : test_read field_short (read_field (read_schema d) s) ≡ short_default g.tree g.default
+    own = field-by ∙ ap (λ x. short_default g.tree g.default && x) inner-short ∙ and-true (short_default g.tree g.default)
 
-      -- the field ends where its schema does
-      field-len : short_default g.tree g.default ≡ true → ShortLen field_short (read_field (read_schema d) s) s (f.schema_at + n)
-      field-len z =
-          let t : g.rest ≡ drop (f.schema_at + n) s = spans-rest _ _ n (some-spans defaults_short _ _ n v q) g.tree g.rest g.schema_at ∙ drop-drop n f.schema_at s in
-          passes-len field_short _ s _ (omega (arith, q)) (own ∙ z)
-          (spans-some _ s _ (g.name, g.default, g.tree) field-inside (g.reads ∙ ap (λ r. some ((g.name, g.default, g.tree), r)) t))
+    -- the field ends where its schema does
+    field-len : short_default g.tree g.default ≡ true → ShortLen field_short (read_field (read_schema d) s) s (Some (f.schema_at + n))
+    unfolding ShortLen
+    field-len z =
+        let t : g.rest ≡ drop (f.schema_at + n) s = spans-rest _ _ n v.1 g.tree g.rest g.schema_at ∙ drop-drop n f.schema_at s in
+        (own ∙ z, spans-some _ s _ (g.name, g.default, g.tree) field-inside (g.reads ∙ ap (λ r. some ((g.name, g.default, g.tree), r)) t))
 
-      pub none-short : f.default ≡ false → ShortLen field_short (read_field (read_schema d) s) s (f.schema_at + n)
+    pub none-short : f.default ≡ None → ShortLen field_short (read_field (read_schema d) s) s (Some (f.schema_at + n))
+    unfolding short_default
+    none-short e =
+        let z = default_none s g.default (subst (λ x. DefaultAt s x g.default) e g.default_at) in
+        field-len (ap (short_default g.tree) z)
+
+    pub inner-ready : Ready d (drop f.schema_at s)
+    inner-ready = short-ready d (drop f.schema_at s) inner-sound inner-short
+
+    module _ (p : ℕ) (y : f.default ≡ Some p) where
+      given : Given s p g.default
+      given = default-given s p g.default (subst (λ x. DefaultAt s x g.default) y g.default_at)
+
+      pub default-inside : p ≤ length s
+      default-inside = given.inside
+
+      pub default-sound : SoundRead default_kinds (read_value 16 (drop p s))
+      unfolding default_allowed
+      default-sound =
+          let u = given.value in
+          let h : T (default_kinds u && keys_rise u) = subst (λ x. T (default_allowed x)) given.there (and_l (default_allowed g.default) (schema_sound g.tree) field-is-sound) in
+          record { tree = u; rest = given.rest; reads = given.reads; sound = and_l (default_kinds u) (keys_rise u) h }
+
+      default-is : (r : Bool) → r ≡ short_start (on_both start_default (read_schema d (drop f.schema_at s)) (read_value 16 (drop p s))) → short_default g.tree g.default ≡ r
       unfolding short_default
-      none-short e =
-          let z = default_none s f.default_at g.default (subst (λ x. DefaultAt s x f.default_at g.default) e g.default_at) in
-          field-len (ap (short_default g.tree) z)
+      default-is r e =
+          ap (short_default g.tree) given.there
+          ∙ sym (e ∙ ap short_start (both_some start_default _ _ g.tree given.value g.rest given.rest g.schema_at given.reads))
 
-      pub inner-ready : Ready d (drop f.schema_at s)
-      inner-ready = short-ready d (drop f.schema_at s) inner-sound inner-short
-
-      module _ (y : f.default ≡ true) where
-        given : Given s f.default_at g.default
-        given = default-given s f.default_at g.default (subst (λ x. DefaultAt s x f.default_at g.default) y g.default_at)
-
-        pub default-inside : f.default_at ≤ length s
-        default-inside = given.inside
-
-        pub default-sound : SoundRead default_kinds (read_value 16 (drop f.default_at s))
-        unfolding default_allowed
-        default-sound =
-            let u = given.value in
-            let h : T (default_kinds u && keys_rise u) = subst (λ x. T (default_allowed x)) given.there (and_l (default_allowed g.default) (schema_sound g.tree) field-is-sound) in
-            record { tree = u; rest = given.rest; reads = given.reads; sound = and_l (default_kinds u) (keys_rise u) h }
-
-        module _ (r : Bool) (e : r ≡ short_start (on_both start_default (read_schema d (drop f.schema_at s)) (read_value 16 (drop f.default_at s)))) where
-          default-is : short_default g.tree g.default ≡ r
-          unfolding short_default
-          default-is =
-              ap (short_default g.tree) given.there
-              ∙ sym (e ∙ ap short_start (both_some start_default _ _ g.tree given.value g.rest given.rest g.schema_at given.reads))
-
-          pub start-long : r ≡ false → ShortLen field_short (read_field (read_schema d) s) s 0
-          start-long z = fails-zero field_short _ s (own ∙ default-is ∙ z)
-
-          pub start-short : r ≡ true → ShortLen field_short (read_field (read_schema d) s) s (f.schema_at + n)
-          start-short z = field-len (default-is ∙ z)
+      pub start-len : (r : Bool) → r ≡ short_start (on_both start_default (read_schema d (drop f.schema_at s)) (read_value 16 (drop p s)))
+          → ShortLen field_short (read_field (read_schema d) s) s (then_some r (f.schema_at + n))
+      unfolding ShortLen
+      start-len true e = field-len (default-is true e)
+      start-len false e = own ∙ default-is false e

@@ -1,16 +1,18 @@
 -- Sound parts of a schema frame, and the lengths of those whose defaults are short: the children of a node, and the loops over the
 -- variants of a union and the fields of a record.
-use Prim.Native.Nat.{ℕ, zero, suc, ◌+◌, ◌-◌, ◌≤◌, ◌<◌}
+use Prim.Native.Nat.{ℕ, ◌+◌, ◌-◌, ◌≤◌, ◌<◌}
 use mathlib.Core.Path.{◌≡◌, refl, sym, ap, ◌∙◌, subst}
 use mathlib.Core.List.{List, [], ◌∷◌}
 use mathlib.Core.Option.{none, some}
 use mathlib.Core.Bool.{Bool, true, false, ◌&&◌, not}
 use native.Mathlib.Omega.{arith}
-use lib.Dec.{T, eqb}
+use lib.Dec.{T, leb}
 use lib.ListN.{length, get_or, drop, length-drop}
 use lib.Seq.{drop-drop}
 use lib.Ieee.Fits.{and_i, and_l, and_r}
-use borrow.Author.Tests.{ne_eqb}
+use borrow.Author.Tests.{leb-true, leb-false}
+use Rattle.std.specs.Prelude.{Option, Some, None}
+use Rattle.std.specs.Option.{is_some}
 use Rattle.number.specs.Number.{number_at}
 use Rattle.text.specs.Read.{Read, ◌>>=◌}
 use Rattle.text.specs.Measured.{Reads}
@@ -27,9 +29,8 @@ use Rattle.schema.specs.Parts.{field_sound}
 use Rattle.avro.specs.Defaults.{defaults_short, field_defaults_short, variant_defaults_short}
 use Rattle.frame.proofs.SoundLaws.{sound-union, sound-variant}
 use Rattle.variants.specs.Ways.{Ready}
-use Rattle.defaults.specs.Shortness.{SoundRead, test_read, ShortLen, next_len, field_short}
+use Rattle.defaults.specs.Shortness.{SoundRead, test_read, ShortLen, field_short}
 use Rattle.walk.proofs.ReadParts.{schema-array, schema-map, schema-fields}
-use Rattle.frame.proofs.Shrinking.{schema-spans-positive}
 use Rattle.variants.proofs.UnionReading.{union-parts}
 
 -- ---- what was read
@@ -44,53 +45,28 @@ test-some test x a r e = ap (test_read test) e
 -- ---- the length of what passes a test
 
 module _ {A : Type 0} (test : A → Bool) (x : Read A) (s : List ℕ) where
-  pub zero-fails : (n : ℕ) → ShortLen test x s n → n ≡ 0 → test_read test x ≡ false
+  pub len-le : (n : ℕ) → ShortLen test x s (Some n) → n ≤ length s
   unfolding ShortLen
-  zero-fails zero w e = w
-  zero-fails (suc n) w e = absurd (omega arith)
+  len-le n w = spans-le x s n w.1
 
-  pub some-passes : (n : ℕ) → ShortLen test x s n → (n ≡ 0 → ⊥) → test_read test x ≡ true
+  pub len-tells : (o : Option ℕ) → ShortLen test x s o → is_some o ≡ test_read test x
   unfolding ShortLen
-  some-passes zero w f = absurd (f refl)
-  some-passes (suc n) w f = w.0
+  len-tells None w = sym w
+  len-tells (Some n) w = sym w.0
 
-  pub some-spans : (n : ℕ) → ShortLen test x s n → (n ≡ 0 → ⊥) → Spans x s n
+  pub fails : test_read test x ≡ false → ShortLen test x s None
   unfolding ShortLen
-  some-spans zero w f = absurd (f refl)
-  some-spans (suc n) w f = w.1
-
-  pub len-le : (n : ℕ) → ShortLen test x s n → n ≤ length s
-  unfolding ShortLen
-  len-le zero w = omega arith
-  len-le (suc n) w = spans-le x s (suc n) w.1
-
-  pub len-tells : (n : ℕ) → ShortLen test x s n → not (eqb n 0) ≡ test_read test x
-  unfolding ShortLen
-  len-tells zero w = sym w
-  len-tells (suc n) w = ap not (ne_eqb (suc n) 0 (λ e. omega arith)) ∙ sym w.0
-
-  pub fails-zero : test_read test x ≡ false → ShortLen test x s 0
-  unfolding ShortLen
-  fails-zero e = e
-
-  pub passes-len : (n : ℕ) → 0 < n → test_read test x ≡ true → Spans x s n → ShortLen test x s n
-  unfolding ShortLen
-  passes-len zero h e v = absurd (omega arith)
-  passes-len (suc n) h e v = (e, v)
-
-pub next-zero : (n : ℕ) → n ≡ 0 → 0 ≡ next_len n
-unfolding next_len
-next-zero zero e = refl
-next-zero (suc n) e = absurd (omega arith)
-
-pub next-some : (n : ℕ) → (n ≡ 0 → ⊥) → n + 1 ≡ next_len n
-unfolding next_len
-next-some zero f = absurd (f refl)
-next-some (suc n) f = omega arith
+  fails e = e
 
 -- a node whose defaults are short
-pub node-len : (d : ℕ) (s : List ℕ) → test_read defaults_short (read_schema d s) ≡ true → (n : ℕ) → Spans (read_schema d s) s n → ShortLen defaults_short (read_schema d s) s n
-node-len d s e n v = passes-len defaults_short (read_schema d s) s n (schema-spans-positive d s n v) e v
+pub node-len : (d : ℕ) (s : List ℕ) → test_read defaults_short (read_schema d s) ≡ true → (n : ℕ) → Spans (read_schema d s) s n → ShortLen defaults_short (read_schema d s) s (Some n)
+unfolding ShortLen
+node-len d s e n v = (e, v)
+
+-- a length with one byte more in front
+abbrev pub next_len : Option ℕ → Option ℕ
+next_len None = None
+next_len (Some n) = Some (1 + n)
 
 -- ---- a node that is as sound and as short as its child
 
@@ -109,12 +85,10 @@ module _ {A B : Type 0} (g : A → B) (f : A → Bool) (h : B → Bool) (q : (a 
   child-test x y e = ap (test_read h) e ∙ test-map y
 
   -- the child stands behind the kind byte
-  child-len : (x : Read B) (y : Read A) (s : List ℕ) → 0 < length s → x ≡ map_read g y → (n : ℕ) → ShortLen f y (drop 1 s) n → ShortLen h x s (next_len n)
-  unfolding ShortLen next_len
-  child-len x y s l e zero w = child-test x y e ∙ w
-  child-len x y s l e (suc n) w =
-      let k : 1 + suc n ≡ suc (suc n) = omega arith in
-      (child-test x y e ∙ w.0, subst (Spans x s) k (spans-eq x (map_read g y) s (1 + suc n) e (spans-map g y s (1 + suc n) (spans-drop y s 1 (suc n) l w.1))))
+  child-len : (x : Read B) (y : Read A) (s : List ℕ) → 0 < length s → x ≡ map_read g y → (o : Option ℕ) → ShortLen f y (drop 1 s) o → ShortLen h x s (next_len o)
+  unfolding ShortLen
+  child-len x y s l e None w = child-test x y e ∙ w
+  child-len x y s l e (Some n) w = (child-test x y e ∙ w.0, spans-eq x (map_read g y) s (1 + n) e (spans-map g y s (1 + n) (spans-drop y s 1 n l w.1)))
 
 -- a schema that has no child has no default
 leaf : (t : Schema) (k : ℕ) → schema_kind t ≡ k → (k ≡ 8 → ⊥) → (k ≡ 9 → ⊥) → (k ≡ 10 → ⊥) → (k ≡ 11 → ⊥) → defaults_short t ≡ true
@@ -138,7 +112,7 @@ module _ (d : ℕ) (s : List ℕ) (w : SoundRead schema_sound (read_schema d s))
   unfolding schema_sound
   items-sound e = child-sound Schema.Array schema_sound schema_sound (λ a. refl) _ _ (schema-array d s (sound-reads w) e) w
 
-  pub items-len : get_or s 0 0 ≡ 8 → (n : ℕ) → ShortLen defaults_short (read_schema (d - 1) (drop 1 s)) (drop 1 s) n → ShortLen defaults_short (read_schema d s) s (next_len n)
+  pub items-len : get_or s 0 0 ≡ 8 → (o : Option ℕ) → ShortLen defaults_short (read_schema (d - 1) (drop 1 s)) (drop 1 s) o → ShortLen defaults_short (read_schema d s) s (next_len o)
   unfolding defaults_short
   items-len e = child-len Schema.Array defaults_short defaults_short (λ a. refl) _ _ s sound-there.1 (schema-array d s (sound-reads w) e)
 
@@ -146,14 +120,23 @@ module _ (d : ℕ) (s : List ℕ) (w : SoundRead schema_sound (read_schema d s))
   unfolding schema_sound
   values-sound e = child-sound Schema.Map schema_sound schema_sound (λ a. refl) _ _ (schema-map d s (sound-reads w) e) w
 
-  pub values_len : get_or s 0 0 ≡ 9 → (n : ℕ) → ShortLen defaults_short (read_schema (d - 1) (drop 1 s)) (drop 1 s) n → ShortLen defaults_short (read_schema d s) s (next_len n)
+  pub values_len : get_or s 0 0 ≡ 9 → (o : Option ℕ) → ShortLen defaults_short (read_schema (d - 1) (drop 1 s)) (drop 1 s) o → ShortLen defaults_short (read_schema d s) s (next_len o)
   unfolding defaults_short
   values_len e = child-len Schema.Map defaults_short defaults_short (λ a. refl) _ _ s sound-there.1 (schema-map d s (sound-reads w) e)
 
-  pub leaf-len : (get_or s 0 0 ≡ 8 → ⊥) → (get_or s 0 0 ≡ 9 → ⊥) → (get_or s 0 0 ≡ 10 → ⊥) → (get_or s 0 0 ≡ 11 → ⊥) → (n : ℕ) → Spans (read_schema d s) s n → ShortLen defaults_short (read_schema d s) s n
+  pub leaf-len : (get_or s 0 0 ≡ 8 → ⊥) → (get_or s 0 0 ≡ 9 → ⊥) → (get_or s 0 0 ≡ 10 → ⊥) → (get_or s 0 0 ≡ 11 → ⊥) → (n : ℕ) → Spans (read_schema d s) s n → ShortLen defaults_short (read_schema d s) s (Some n)
   leaf-len a m u r =
       let k = schema-kind d s w.tree w.rest w.reads in
       node-len d s (test-some defaults_short _ w.tree w.rest w.reads ∙ leaf w.tree (get_or s 0 0) k a m u r)
+
+-- the kind of an array, or of a map
+module _ {P : Type 0} (k : ℕ) (l : 8 ≤ k) (h : k < 10) (a : k ≡ 8 → P) (m : k ≡ 9 → P) where
+  at-most : (b : Bool) → leb k 8 ≡ b → P
+  at-most true q = let u = leb-true k 8 q in a (omega arith)
+  at-most false q = let u = leb-false k 8 q in m (omega arith)
+
+  pub array-or-map : P
+  array-or-map = at-most (leb k 8) refl
 
 -- a sound schema whose defaults turned out short
 pub short-ready : (d : ℕ) (s : List ℕ) → SoundRead schema_sound (read_schema d s) → test_read defaults_short (read_schema d s) ≡ true → Ready d s
@@ -197,23 +180,25 @@ module _ {A : Type 0} {p : List ℕ → Read A} {sound short : List A → Bool} 
       ∙ ap (λ x. x && short f.others) (sym (test-some test _ f.item f.behind f.first))
 
   -- one that is not short
-  pub left-long : 0 < left → (m : ℕ) → ShortLen test (p (drop at s)) (drop at s) m → m ≡ 0 → whole ≡ false
-  left-long h m v e =
+  pub left-long : 0 < left → ShortLen test (p (drop at s)) (drop at s) None → whole ≡ false
+  unfolding ShortLen
+  left-long h v =
       let f = many-first p left (drop at s) w.items w.rest h w.reads in
-      left_both f ∙ ap (λ x. x && short f.others) (zero-fails test _ _ m v e)
+      left_both f ∙ ap (λ x. x && short f.others) v
 
   -- one that is short, of m bytes
-  pub left-short : 0 < left → (m : ℕ) → ShortLen test (p (drop at s)) (drop at s) m → (m ≡ 0 → ⊥) → Left p sound short whole end s (left - 1) (at + m)
-  left-short h m v g =
+  pub left-short : 0 < left → (m : ℕ) → ShortLen test (p (drop at s)) (drop at s) (Some m) → Left p sound short whole end s (left - 1) (at + m)
+  unfolding ShortLen
+  left-short h m v =
       let f = many-first p left (drop at s) w.items w.rest h w.reads in
-      let t : f.behind ≡ drop (at + m) s = spans-rest _ _ m (some-spans test _ _ m v g) f.item f.behind f.first ∙ drop-drop m at s in
+      let t : f.behind ≡ drop (at + m) s = spans-rest _ _ m v.1 f.item f.behind f.first ∙ drop-drop m at s in
       record {
         inside = omega (arith, w.inside, len-le test _ _ m v, length-drop at s);
         items = f.others;
         rest = w.rest;
         reads = ap (read_many p (left - 1)) (sym t) ∙ f.reads;
         are-sound = by.others-sound f.item f.others (subst (λ l. T (sound l)) f.cons w.are-sound);
-        are-short = left_both f ∙ ap (λ x. x && short f.others) (some-passes test _ _ m v g);
+        are-short = left_both f ∙ ap (λ x. x && short f.others) v.0;
         ends = w.ends;
       }
 
@@ -265,7 +250,7 @@ module _ (d : ℕ) (s : List ℕ) (w : SoundRead schema_sound (read_schema d s))
         ends = (w.tree, w.reads);
       }
 
-pub fields-end : (d : ℕ) (s : List ℕ) (left at : ℕ) → FieldsLeft d s left at → left ≤ 0 → ShortLen defaults_short (read_schema d s) s at
+pub fields-end : (d : ℕ) (s : List ℕ) (left at : ℕ) → FieldsLeft d s left at → left ≤ 0 → ShortLen defaults_short (read_schema d s) s (Some at)
 fields-end d s left at w h =
     let q = left_end by-fields w h in
     node-len d s q.0 at (spans-some (read_schema d s) s at q.1.0 w.inside q.1.1)

@@ -1,5 +1,5 @@
 -- What the check of number 4 over parts of frames requires, and what it answers.
-use Rattle.std.specs.Prelude.{ℕ, zero, suc, ◌≡◌, List, Bool, true, false, ◌&&◌, T}
+use Rattle.std.specs.Prelude.{ℕ, ◌≡◌, List, Bool, true, false, ◌&&◌, T, Option, Some, None}
 use Rattle.std.proofs.Math.Option.{none, some}
 use Rattle.text.specs.Read.{Read}
 use Rattle.frame.specs.SchemaFrame.{Field}
@@ -18,15 +18,10 @@ unfoldable pub test_read : {A : Type 0} → (A → Bool) → Read A → Bool
 test_read test none = true
 test_read test (some x) = test x.0
 
--- the length of what was read from the front of s where it passes the test, and else 0
-unfoldable pub ShortLen : {A : Type 0} → (A → Bool) → Read A → List ℕ → ℕ → Type 0
-ShortLen test x s zero = test_read test x ≡ false
-ShortLen test x s (suc n) = (test_read test x ≡ true) × Spans x s (suc n)
-
--- such a length with one byte more in front
-unfoldable pub next_len : ℕ → ℕ
-next_len zero = zero
-next_len (suc n) = suc (suc n)
+-- the length of what was read from the front of s, if it passes the test
+unfoldable pub ShortLen : {A : Type 0} → (A → Bool) → Read A → List ℕ → Option ℕ → Type 0
+ShortLen test x s (Some n) = (test_read test x ≡ true) × Spans x s n
+ShortLen test x s None = test_read test x ≡ false
 
 -- a field by itself: its default is short, and so are those inside its schema
 unfoldable pub field_short : Field → Bool

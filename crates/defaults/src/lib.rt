@@ -11,9 +11,8 @@ ghost use Rattle.avro.specs.Defaults.{defaults_short, short_start};
 ghost use Rattle.types.specs.Contract.{on_both};
 ghost use Rattle.variants.specs.Ways.{Ready};
 ghost use Rattle.schema.specs.Parts.{field_sound};
-ghost use Rattle.defaults.specs.Shortness.{SoundRead, ShortLen, field_short, next_len, test_read};
+ghost use Rattle.defaults.specs.Shortness.{SoundRead, ShortLen, field_short, test_read};
 
-use buffer::Answer;
 use field::field_at;
 use frame::kind;
 use schema::schema_len;
@@ -24,44 +23,28 @@ pub fn defaults_short(s: &[u8], out: &mut [u8], ds: usize) -> bool
     requires { SoundRead schema_sound (read_schema ds s.now) }
     ensures { result ≡ test_read defaults_short (read_schema ds s.now) }
 {
-    short_len(s, out, ds) != 0
+    short_len(s, out, ds).is_some()
 }
 
-// The length of a schema node whose defaults are all short, else 0: whoever walks on need not measure it. Only a union is
-// measured once it was walked, with the tables behind its variants.
+// The length of a schema node, if its defaults are all short: whoever walks on need not measure it. Only a union is measured
+// once it was walked, with the tables behind its variants.
 #[cycle(shortness)]
-fn short_len(s: &[u8], out: &mut [u8], ds: usize) -> usize
+fn short_len(s: &[u8], out: &mut [u8], ds: usize) -> Option<usize>
     requires { SoundRead schema_sound (read_schema ds s.now) }
     ensures { ShortLen defaults_short (read_schema ds s.now) s.now result }
 {
-    let k = s[0];
-    if k == kind::ARRAY {
-        return next(short_len(&s[1..], out, ds - 1));
-    }
-    if k == kind::MAP {
-        return next(short_len(&s[1..], out, ds - 1));
-    }
-    if k == kind::UNION {
-        if variants_short(s, out, ds) {
-            return schema_len(s, ds);
+    match s[0] {
+        kind::ARRAY | kind::MAP => Some(1 + short_len(&s[1..], out, ds - 1)?),
+        kind::UNION => {
+            if variants_short(s, out, ds) {
+                Some(schema_len(s, ds))
+            } else {
+                None
+            }
         }
-        return 0;
+        kind::RECORD => fields_short(s, out, ds),
+        _ => Some(schema_len(s, ds)),
     }
-    if k == kind::RECORD {
-        return fields_short(s, out, ds);
-    }
-    schema_len(s, ds)
-}
-
-// One byte more than a length. 0 is none, and stays 0.
-fn next(n: usize) -> usize
-    requires { n < 2 ^ 63 }
-    ensures { result ≡ next_len n }
-{
-    if n == 0 {
-        return 0;
-    }
-    n + 1
 }
 
 // The variants of a union.
@@ -70,58 +53,42 @@ fn variants_short(s: &[u8], out: &mut [u8], ds: usize) -> bool
     requires { SoundRead schema_sound (read_schema ds s.now) × (get_or s.now 0 0 ≡ 10) }
     ensures { result ≡ test_read defaults_short (read_schema ds s.now) }
 {
-    let mut left = number::read2(s, 1);
-    let mut at: usize = 3;
-    while 0 < left {
-        let m = short_len(&s[at..], out, ds - 1);
-        if m == 0 {
-            return false;
+    let mut at = 3;
+    for _ in 0..number::read2(s, 1) {
+        match short_len(&s[at..], out, ds - 1) {
+            Some(n) => at += n,
+            None => return false,
         }
-        at += m;
-        left -= 1;
     }
     true
 }
 
-// The length of a record whose fields are all short, else 0.
+// The length of a record, if its fields are all short.
 #[cycle(shortness)]
-fn fields_short(s: &[u8], out: &mut [u8], ds: usize) -> usize
+fn fields_short(s: &[u8], out: &mut [u8], ds: usize) -> Option<usize>
     requires { SoundRead schema_sound (read_schema ds s.now) × (get_or s.now 0 0 ≡ 11) }
     ensures { ShortLen defaults_short (read_schema ds s.now) s.now result }
 {
-    let mut left = number::read2(s, 1);
-    let mut at: usize = 3;
-    while 0 < left {
-        let m = field_short(&s[at..], out, ds - 1);
-        if m == 0 {
-            return 0;
-        }
-        at += m;
-        left -= 1;
+    let mut at = 3;
+    for _ in 0..number::read2(s, 1) {
+        at += field_short(&s[at..], out, ds - 1)?;
     }
-    at
+    Some(at)
 }
 
-// The length of a field that is short, else 0: the defaults inside its schema come first, and then its own.
+// The length of a field, if it is short: the defaults inside its schema come first, and then its own.
 #[cycle(shortness)]
-fn field_short(s: &[u8], out: &mut [u8], ds: usize) -> usize
+fn field_short(s: &[u8], out: &mut [u8], ds: usize) -> Option<usize>
     requires { SoundRead field_sound (read_field (read_schema ds) s.now) }
     ensures { ShortLen field_short (read_field (read_schema ds) s.now) s.now result }
 {
     let f = field_at(s, ds);
     let at = f.schema_at;
-    let n = short_len(&s[at..], out, ds);
-    if n == 0 {
-        return 0;
+    let end = at + short_len(&s[at..], out, ds)?;
+    match f.default {
+        Some(d) => start_short(&s[at..], &s[d..], out, ds).then_some(end),
+        None => Some(end),
     }
-    if !f.default {
-        return at + n;
-    }
-    let from = f.default_at;
-    if start_short(&s[at..], &s[from..], out, ds) {
-        return at + n;
-    }
-    0
 }
 
 // What the default d becomes in the first variant of s. A schema that is no union leaves it as it is, and a Null variant gives
@@ -130,10 +97,7 @@ fn start_short(s: &[u8], d: &[u8], out: &mut [u8], ds: usize) -> bool
     requires { Ready ds s.now × SoundRead default_kinds (read_value 16 d.now) }
     ensures { result ≡ short_start (on_both start_default (read_schema ds s.now) (read_value 16 d.now)) }
 {
-    if s[0] != kind::UNION {
-        return true;
-    }
-    if s[3] == kind::NULL {
+    if s[0] != kind::UNION || s[3] == kind::NULL {
         return true;
     }
     let first = Walk {
@@ -141,7 +105,7 @@ fn start_short(s: &[u8], d: &[u8], out: &mut [u8], ds: usize) -> bool
         value: 16,
     };
     match resolve_node(first, &s[3..], d, out) {
-        Answer::Accepted(n) => n <= 4096,
-        Answer::Refused(_) => true,
+        Ok(n) => n <= 4096,
+        Err(_) => true,
     }
 }

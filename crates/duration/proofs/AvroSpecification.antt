@@ -4,7 +4,6 @@ use mathlib.Core.Path.{◌≡◌}
 use mathlib.Core.List.{[], ◌∷◌}
 use native.Mathlib.Omega.{arith}
 use Rattle.number.specs.Number.{little_endian}
-use Rattle.duration.specs.declared.Duration.{Duration}
 use Rattle.duration.specs.Duration.{duration_of}
 
 low-byte-first : (a b c d : ℕ) → little_endian (a ∷ b ∷ c ∷ d ∷ []) ≡ a + 256 * b + 65536 * c + 16777216 * d

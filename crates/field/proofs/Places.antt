@@ -3,10 +3,10 @@ use Prim.Native.Nat.{ℕ, ◌+◌, ◌≤◌, ◌<◌}
 use mathlib.Core.Path.{◌≡◌, sym, ap, ◌∙◌}
 use mathlib.Core.List.{List}
 use mathlib.Core.Option.{Option, none, some}
-use mathlib.Core.Bool.{true, false}
 use native.Mathlib.Omega.{arith}
 use lib.ListN.{length, drop, get_or, length-drop}
 use lib.Seq.{drop-drop, get_or-drop}
+use Rattle.std.specs.Prelude.{Some, None}
 use Rattle.text.specs.Text.{Text}
 use Rattle.text.specs.Read.{Read, read_counted, read_text}
 use Rattle.text.specs.Measured.{Reads}
@@ -90,9 +90,9 @@ module _ (u : Under) (depth : ℕ) (s : List ℕ) (r : Reads (read_field (read_s
     no_default : ◌≡◌ {A = Read (Option Value)} (some (none, drop 1 (drop n s))) (some (field.default, field.behind))
     no_default = option-nothing (read_value 16) (drop n s) _ _ second_at (flag-byte ∙ z)
 
-    pub parts_none : (at : ℕ) → FieldPartsUnder u depth s (record { default = false; default_at = at; schema_at = n + 1 })
+    pub parts_none : FieldPartsUnder u depth s (record { default = None; schema_at = n + 1 })
     unfolding DefaultAt
-    parts_none at = record {
+    parts_none = record {
       name = field.name;
       default = none;
       tree = field.tree;
@@ -122,7 +122,7 @@ module _ (u : Under) (depth : ℕ) (s : List ℕ) (r : Reads (read_field (read_s
       unfolding Spans
       behind-is = sym (drop-drop m (n + 1) s) ∙ read-rest (sym w.1.1 ∙ default-is)
 
-      pub parts-some : FieldPartsUnder u depth s (record { default = true; default_at = n + 1; schema_at = n + 1 + m })
+      pub parts-some : FieldPartsUnder u depth s (record { default = Some (n + 1); schema_at = n + 1 + m })
       unfolding DefaultAt
       parts-some = record {
         name = field.name;

@@ -11,11 +11,10 @@ use schema::field_len;
 use text::content;
 use value::value_len;
 
-// Whether there is a default, and where it and the schema begin.
+// Where the default begins, if there is one, and where the schema does.
 #[derive(Clone, Copy)]
 pub struct FieldAt {
-    pub default: bool,
-    pub default_at: usize,
+    pub default: Option<usize>,
     pub schema_at: usize,
 }
 
@@ -28,17 +27,16 @@ pub fn field_at(s: &[u8], depth: usize) -> FieldAt
     let flag = 2 + name.len();
     let at = flag + 1;
     if s[flag] == 0 {
-        return FieldAt {
-            default: false,
-            default_at: at,
+        FieldAt {
+            default: None,
             schema_at: at,
-        };
-    }
-    let n = value_len(&s[at..], 16);
-    FieldAt {
-        default: true,
-        default_at: at,
-        schema_at: at + n,
+        }
+    } else {
+        let n = value_len(&s[at..], 16);
+        FieldAt {
+            default: Some(at),
+            schema_at: at + n,
+        }
     }
 }
 
@@ -47,8 +45,5 @@ pub fn field_reach(s: &[u8], depth: usize, left: u16) -> usize
     requires { Reads (read_field (read_schema depth) s.now) }
     ensures { (result ≤ length s.now) × (1 < left → Spans (read_field (read_schema depth) s.now) s.now result) }
 {
-    if left <= 1 {
-        return 0;
-    }
-    field_len(s, depth)
+    if left <= 1 { 0 } else { field_len(s, depth) }
 }

@@ -1,4 +1,6 @@
 -- Texts and Longs at a place of a frame, and the finish at each way of the code.
+use Rattle.std.specs.Prelude as std
+use Rattle.std.specs.Prelude.{Some, None}
 use Prim.Native.Nat.{ℕ, ◌+◌, ◌-◌, ◌≤◌, ◌<◌}
 use mathlib.Core.Path.{◌≡◌, refl, sym, ap, subst, ◌∙◌}
 use mathlib.Core.List.{List}
@@ -25,20 +27,15 @@ use Rattle.frame.proofs.Texts.{text-is}
 use Rattle.frame.proofs.Passed.{Passes, passed, stopped, passed_reads, passes-reads}
 use Rattle.types.proofs.Contents.{string-content, long-content}
 use Rattle.find.specs.Find.{Keyed, Located, entry_under}
-use Rattle.find.specs.declared.Found.TheVariants as F
 use Rattle.find.proofs.FindLaws.{located-at, located-nothing}
 use Rattle.finishes.specs.Finish.{rank, string_of, long_of, fields, said, said_in, finish_of}
 use Rattle.finishes.specs.Parts.{Within, Parted, long_answer, fields_read, Says}
 use Rattle.finishes.specs.declared.Part.{Part}
-use Rattle.finishes.specs.declared.Part.TheVariants as P
-use Rattle.finishes.specs.declared.Long.{Long}
-use Rattle.finishes.specs.declared.Long.TheVariants as L
 use Rattle.finishes.specs.declared.Entry.{Entry}
-use Rattle.finishes.specs.declared.Entry.TheVariants as E
 
 -- ---- a value that was found
 
-module _ (v : List ℕ) (p : ℕ) (o : Option Value) (l : Located o 15 v (F.At p)) where
+module _ (v : List ℕ) (p : ℕ) (o : Option Value) (l : Located o 15 v (Some p)) where
   found : (p ≤ length v) × ((w : Value) × ((o ≡ some w) × ((r : List ℕ) × (read_value 15 (drop p v) ≡ some (w, r)))))
   found = located-at o 15 v p l
 
@@ -80,7 +77,7 @@ module _ (v : List ℕ) (p : ℕ) (o : Option Value) (l : Located o 15 v (F.At p
     string-is : found.1.0 ≡ Value.Octets 7 (take (number_at v (p + 1) 2) (drop (p + 1 + 2) v))
     string-is = read-what (sym found.1.1.1.1 ∙ string-node ∙ bind-some _ _ _ _ string-text.1)
 
-    pub string-parted : Parted (string_of o) v (P.At (p + 3) (p + 3 + number_at v (p + 1) 2))
+    pub string-parted : Parted (string_of o) v (Some (record { from = p + 3; to = p + 3 + number_at v (p + 1) 2 }))
     unfolding string_of Parted kind_of octets
     string-parted =
         let n = number_at v (p + 1) 2 in
@@ -107,15 +104,15 @@ module _ (v : List ℕ) (p : ℕ) (o : Option Value) (l : Located o 15 v (F.At p
     unfolding long_of kind_of number
     long-told = ap long_of (found.1.1.0 ∙ ap some long-is)
 
-pub parted-none : (o : Option Text) (s : List ℕ) → o ≡ none → Parted o s P.Nothing
+pub parted-none : (o : Option Text) (s : List ℕ) → o ≡ none → Parted o s None
 unfolding Parted
 parted-none o s e = rw e tt
 
-pub string-nothing : (o : Option Value) (v : List ℕ) → Located o 15 v F.Nothing → string_of o ≡ none
+pub string-nothing : (o : Option Value) (v : List ℕ) → Located o 15 v None → string_of o ≡ none
 unfolding string_of
 string-nothing o v l = ap string_of (located-nothing o 15 v l)
 
-pub long-nothing : (o : Option Value) (v : List ℕ) → Located o 15 v F.Nothing → long_of o ≡ none
+pub long-nothing : (o : Option Value) (v : List ℕ) → Located o 15 v None → long_of o ≡ none
 unfolding long_of
 long-nothing o v l = ap long_of (located-nothing o 15 v l)
 
@@ -128,49 +125,49 @@ pub fields-are : (v : List ℕ) → Reads (read_value 16 v) → fields_read (rea
 unfolding Reads fields_read fields entry_under
 fields-are v h = rw h.1.1 refl
 
-pub parted-nothing : (o : Option Text) (s : List ℕ) → Parted o s P.Nothing → o ≡ none
+pub parted-nothing : (o : Option Text) (s : List ℕ) → Parted o s None → o ≡ none
 unfolding Parted
 parted-nothing none s h = refl
 parted-nothing (some t) s h = absurd h
 
-pub parted-at : (o : Option Text) (s : List ℕ) (a e : ℕ) → Parted o s (P.At a e) → (t : Text) × ((o ≡ some t) × Within s t a e)
+pub parted-at : (o : Option Text) (s : List ℕ) (p : Part) → Parted o s (Some p) → (t : Text) × ((o ≡ some t) × Within s t p.from p.to)
 unfolding Parted
-parted-at none s a e h = absurd h
-parted-at (some t) s a e h = (t, (refl, h))
+parted-at none s p h = absurd h
+parted-at (some t) s p h = (t, (refl, h))
 
-pub long-none : (o : Option ℕ) → long_answer o ≡ L.Nothing → o ≡ none
+pub long-none : (o : Option ℕ) → long_answer o ≡ None → o ≡ none
 unfolding long_answer
 long-none none e = refl
 long-none (some n) e = let z : ◌≡◌ {A = ℕ} 0 1 = cc in absurd (omega arith)
 
-pub long-some : (o : Option ℕ) (n : ℕ) → long_answer o ≡ L.Of n → o ≡ some n
+pub long-some : (o : Option ℕ) (n : ℕ) → long_answer o ≡ Some n → o ≡ some n
 unfolding long_answer
 long-some none n e = let z : ◌≡◌ {A = ℕ} 0 1 = cc in absurd (omega arith)
 long-some (some m) n e = let f : m ≡ n = cc in ap some f
 
-pub broken-says : (o : Option (Text × ℕ)) (s : List ℕ) → o ≡ none → Says o s E.Broken
+pub broken-says : (o : Option (Text × ℕ)) (s : List ℕ) → o ≡ none → Says o s None
 unfolding Says
 broken-says o s e = rw e tt
 
 module _ (v : List ℕ) (h : Reads (read_value 16 v)) where
-  pub no-sail : string_of (entry_under (ascii "sail") (read_value 16 v)) ≡ none → Says (fields_read (read_value 16 v)) v E.Broken
+  pub no-sail : string_of (entry_under (ascii "sail") (read_value 16 v)) ≡ none → Says (fields_read (read_value 16 v)) v None
   unfolding ◌>>=◌
   no-sail e = broken-says _ v (fields-are v h ∙ ap (λ (o : Option Text). o >>= (λ x. long_of (entry_under (ascii "seq") (read_value 16 v)) >>= (λ n. some (x, n)))) e)
 
-  module _ (a e : ℕ) (p : Parted (string_of (entry_under (ascii "sail") (read_value 16 v))) v (P.At a e)) where
-    step : fields_read (read_value 16 v) ≡ (long_of (entry_under (ascii "seq") (read_value 16 v)) >>= (λ n. some ((parted-at _ v a e p).0, n)))
+  module _ (sail : Part) (p : Parted (string_of (entry_under (ascii "sail") (read_value 16 v))) v (Some sail)) where
+    step : fields_read (read_value 16 v) ≡ (long_of (entry_under (ascii "seq") (read_value 16 v)) >>= (λ n. some ((parted-at _ v sail p).0, n)))
     unfolding ◌>>=◌
-    step = fields-are v h ∙ ap (λ (o : Option Text). o >>= (λ x. long_of (entry_under (ascii "seq") (read_value 16 v)) >>= (λ n. some (x, n)))) (parted-at _ v a e p).1.0
+    step = fields-are v h ∙ ap (λ (o : Option Text). o >>= (λ x. long_of (entry_under (ascii "seq") (read_value 16 v)) >>= (λ n. some (x, n)))) (parted-at _ v sail p).1.0
 
-    pub no-seq : long_of (entry_under (ascii "seq") (read_value 16 v)) ≡ none → Says (fields_read (read_value 16 v)) v E.Broken
+    pub no-seq : long_of (entry_under (ascii "seq") (read_value 16 v)) ≡ none → Says (fields_read (read_value 16 v)) v None
     unfolding ◌>>=◌
-    no-seq q = broken-says _ v (step ∙ ap (λ (o : Option ℕ). o >>= (λ n. some ((parted-at _ v a e p).0, n))) q)
+    no-seq q = broken-says _ v (step ∙ ap (λ (o : Option ℕ). o >>= (λ n. some ((parted-at _ v sail p).0, n))) q)
 
-    pub both-said : (n : ℕ) → long_of (entry_under (ascii "seq") (read_value 16 v)) ≡ some n → Says (fields_read (read_value 16 v)) v (E.Of a e n)
+    pub both-said : (n : ℕ) → long_of (entry_under (ascii "seq") (read_value 16 v)) ≡ some n → Says (fields_read (read_value 16 v)) v (Some (record { from = sail.from; to = sail.to; rank = n }))
     unfolding ◌>>=◌ Says
     both-said n q =
-        let d : fields_read (read_value 16 v) ≡ some ((parted-at _ v a e p).0, n) = step ∙ ap (λ (o : Option ℕ). o >>= (λ n. some ((parted-at _ v a e p).0, n))) q in
-        rw d ((parted-at _ v a e p).1.1, refl)
+        let d : fields_read (read_value 16 v) ≡ some ((parted-at _ v sail p).0, n) = step ∙ ap (λ (o : Option ℕ). o >>= (λ n. some ((parted-at _ v sail p).0, n))) q in
+        rw d ((parted-at _ v sail p).1.1, refl)
 
 -- ---- the frame
 
@@ -207,5 +204,5 @@ pub is-keyed : (v : List ℕ) → get_or v 0 0 ≡ 11 → Keyed v
 unfolding Keyed
 is-keyed v e = inr e
 
-pub says_eq : (o p : Option (Text × ℕ)) (s : List ℕ) (r : Entry) → o ≡ p → Says o s r → Says p s r
+pub says_eq : (o p : Option (Text × ℕ)) (s : List ℕ) (r : std.Option Entry) → o ≡ p → Says o s r → Says p s r
 says_eq o p s r e h = subst (λ x. Says x s r) e h

@@ -5,95 +5,79 @@ ghost use Rattle.std.specs.Prelude.{◌≡◌};
 ghost use Rattle.text.specs.Measured.{Reads};
 ghost use Rattle.frame.specs.ValueFrame.{read_value};
 ghost use Rattle.find.specs.Find.{Keyed, entry_under};
-ghost use Rattle.finishes.specs.Finish;
+ghost use Rattle.finishes.specs.Finish.{finish_of, long_of, rank, string_of};
 ghost use Rattle.finishes.specs.Parts.{Parted, Says, fields_read, long_answer};
 
-use find::Found;
 use frame::kind;
 
-// From where to before where a text stands.
+// A text: from where to before where it stands.
 #[derive(Clone, Copy)]
-enum Part {
-    At(usize, usize),
-    Nothing,
+struct Part {
+    from: usize,
+    to: usize,
 }
 
-// The rank of a Long.
+// A finish: from where to before where its sail stands, and the rank of its seq.
 #[derive(Clone, Copy)]
-enum Long {
-    Of(u64),
-    Nothing,
-}
-
-// From where to before where a finish's sail stands, and the rank of its seq; Broken is what 24 refuses.
-#[derive(Clone, Copy)]
-pub enum Entry {
-    Of(usize, usize, u64),
-    Broken,
+pub struct Entry {
+    pub from: usize,
+    pub to: usize,
+    pub rank: u64,
 }
 
 // The rank of a Long among the Longs, by its bits.
 fn rank(b: u64) -> u64
-    ensures { result ≡ Finish.rank b }
+    ensures { result ≡ rank b }
 {
     if b < 0x8000_0000_0000_0000 {
-        return b + 0x8000_0000_0000_0000;
+        b + 0x8000_0000_0000_0000
+    } else {
+        b - 0x8000_0000_0000_0000
     }
-    b - 0x8000_0000_0000_0000
 }
 
 // The String under a name.
-fn string_under(v: &[u8], name: &[u8]) -> Part
+fn string_under(v: &[u8], name: &[u8]) -> Option<Part>
     requires { Reads (read_value 16 v.now) × Keyed v.now }
-    ensures { Parted (Finish.string_of (entry_under name.now (read_value 16 v.now))) v.now result }
+    ensures { Parted (string_of (entry_under name.now (read_value 16 v.now))) v.now result }
 {
-    let Found::At(p) = find::find_last(v, name, 16) else {
-        return Part::Nothing;
-    };
+    let p = find::find_last(v, name, 16)?;
     if v[p] != kind::STRING {
-        return Part::Nothing;
+        return None;
     }
-    let start = p + 3;
-    Part::At(start, start + (number::read2(v, p + 1) as usize))
+    let from = p + 3;
+    let to = from + number::read2(v, p + 1) as usize;
+    Some(Part { from, to })
 }
 
-// The Long under a name.
-fn long_under(v: &[u8], name: &[u8]) -> Long
+// The rank of the Long under a name.
+fn long_under(v: &[u8], name: &[u8]) -> Option<u64>
     requires { Reads (read_value 16 v.now) × Keyed v.now }
-    ensures { result ≡ long_answer (Finish.long_of (entry_under name.now (read_value 16 v.now))) }
+    ensures { result ≡ long_answer (long_of (entry_under name.now (read_value 16 v.now))) }
 {
-    let Found::At(p) = find::find_last(v, name, 16) else {
-        return Long::Nothing;
-    };
+    let p = find::find_last(v, name, 16)?;
     if v[p] != kind::LONG {
-        return Long::Nothing;
+        return None;
     }
-    Long::Of(rank(number::read8(v, p + 1)))
+    Some(rank(number::read8(v, p + 1)))
 }
 
 // The finish of a frame that is known to hold a record.
-fn record_finish(v: &[u8]) -> Entry
+fn record_finish(v: &[u8]) -> Option<Entry>
     requires { Reads (read_value 16 v.now) × Keyed v.now }
     ensures { Says (fields_read (read_value 16 v.now)) v.now result }
 {
-    let Part::At(a, e) = string_under(v, b"sail") else {
-        return Entry::Broken;
-    };
-    let Long::Of(n) = long_under(v, b"seq") else {
-        return Entry::Broken;
-    };
-    Entry::Of(a, e, n)
+    let Part { from, to } = string_under(v, b"sail")?;
+    let rank = long_under(v, b"seq")?;
+    Some(Entry { from, to, rank })
 }
 
-// The finish that a frame says.
-pub fn finish(v: &[u8]) -> Entry
-    ensures { Says (Finish.finish_of v.now) v.now result }
+// The finish that a frame says; none is what 24 refuses.
+pub fn finish(v: &[u8]) -> Option<Entry>
+    ensures { Says (finish_of v.now) v.now result }
 {
-    if !value::is_frame(v) {
-        return Entry::Broken;
-    }
-    if v[0] != kind::RECORD {
-        return Entry::Broken;
+    if !value::is_frame(v) || v[0] != kind::RECORD {
+        return None;
     }
     record_finish(v)
 }

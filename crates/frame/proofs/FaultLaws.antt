@@ -17,7 +17,7 @@ use Rattle.frame.specs.Kind
 use Rattle.frame.specs.Tree.{Value, Schema, Fields, Variants, UuidForm, no_fields, field, no_variants, variant, schema_kind}
 use Rattle.frame.specs.Sound.{default_allowed, kinds_sound, positions_sound, count_variants, has_field, uuid_size_sound, schema_sound, fields_sound, variants_sound}
 use Rattle.frame.proofs.SoundLaws.{sound-union, sound-variant, sound-field}
-use Rattle.frame.specs.Faults.{Allowed, string, VariantOf, first_variant, later_variant, FieldOf, first_field, later_field, NameTwice, again, further, NotRising, behind, further_on, Faulty, empty_union, union_variant, kind_past, kind_falls, lead_past, named_past, name_repeats, duration_size, uuid_size, default_kind, in_items, in_values, in_field, in_variant}
+use Rattle.frame.specs.Faults.{Allowed, VariantOf, first_variant, later_variant, FieldOf, first_field, later_field, NameTwice, again, further, NotRising, behind, further_on, Faulty, empty_union, union_variant, kind_past, kind_falls, lead_past, named_past, name_repeats, duration_size, uuid_size, default_kind, in_items, in_values, in_field, in_variant}
 use Rattle.frame.proofs.DefaultLaws.{default-allowed}
 
 -- ---- what is faulty is not sound

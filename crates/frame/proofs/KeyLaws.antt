@@ -5,7 +5,6 @@ use lib.Ieee.Fits.{and_l, and_r, and_i}
 use Rattle.text.specs.Text.{Text}
 use Rattle.text.specs.Order.{Below}
 use Rattle.text.proofs.OrderLaws.{less→Below, Below→less, Below-trans}
-use Rattle.frame.specs.Kind
 use Rattle.frame.specs.Tree.{Value, Values, Entries, no_items, item, no_entries, entry}
 use Rattle.frame.specs.Sound.{past_key, keys_rise, item_keys_rise, entry_keys_rise, rising}
 use Rattle.frame.specs.Faults.{BelowAll, none_left, one_more, Rises, no_keys, key, ItemOf, first_item, later_item, EntryOf, first_entry, later_entry, MapIn, itself, in_item, in_map, in_record, in_union}

@@ -1,4 +1,5 @@
 // The kind bytes of the rules' table, of a value node and of a schema node; specs/Kind.antt names them for the definitions.
+// Constants and no enum: a node's kind may be any byte, and the definitions of frames answer for each.
 pub const NULL: u8 = 0x00;
 
 pub const BOOLEAN: u8 = 0x01;

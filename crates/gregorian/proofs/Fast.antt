@@ -5,31 +5,13 @@ use mathlib.Core.Bool.{Bool, true, false}
 use native.Mathlib.Numerals.{add-one}
 use native.Mathlib.Omega.{arith}
 use lib.Dec.{T, eqb, ltb, leb, leb→le, eqb→eq}
-use borrow.Author.Tests.{eq-eqb, ne_eqb, lt-ltb, le-ltb, ltb-true, ltb-false}
+use borrow.Author.Tests.{lt-ltb, le-ltb, ltb-true, ltb-false}
 use Rattle.base.specs.Base.{when◌then◌else◌}
 use Rattle.base.proofs.AllBelow.{all_below, all_below-lookup}
 use Rattle.gregorian.specs.Rules.{year_length, month_length, month_start}
 use Rattle.gregorian.specs.declared.Counted.{Counted}
 use Rattle.gregorian.specs.Counted.{leap_at, years_to, counted, Within, number_of, day_with, months_on}
 use Rattle.gregorian.proofs.Laws.{years, year_length-≥, year_length-≤, month_length-≥, month_length-≤, year-of-months, month-step, date-is, day-date}
-
--- ---- a leap year by its tests
-pub leap-no : (y : ℕ) → (y % 4 ≡ 0 → ⊥) → leap_at y ≡ false
-unfolding leap_at
-leap-no y h = rw (ne_eqb (y % 4) 0 h) refl
-
-pub leap-yes : (y : ℕ) → y % 4 ≡ 0 → (y % 100 ≡ 0 → ⊥) → leap_at y ≡ true
-unfolding leap_at
-leap-yes y h k = rw (eq-eqb (y % 4) 0 h, ne_eqb (y % 100) 0 k) refl
-
-pub leap-century : (y : ℕ) → y % 4 ≡ 0 → y % 100 ≡ 0 → leap_at y ≡ eqb (y % 400) 0
-unfolding leap_at
-leap-century y h k = rw (eq-eqb (y % 4) 0 h, eq-eqb (y % 100) 0 k) refl
-
--- ---- a month's length by its tests
-pub month-31 : (l : Bool) (m : ℕ) → (m ≡ 2 → ⊥) → (m ≡ 4 → ⊥) → (m ≡ 6 → ⊥) → (m ≡ 9 → ⊥) → (m ≡ 11 → ⊥) → month_length l m ≡ 31
-unfolding month_length
-month-31 l m a b c d e = rw (ne_eqb m 2 a, ne_eqb m 4 b, ne_eqb m 6 c, ne_eqb m 9 d, ne_eqb m 11 e) refl
 
 -- ---- the start of a month in closed form, tested at each
 unfoldable pub closed_start : Bool → ℕ → ℕ
@@ -158,9 +140,6 @@ number_small c w = omega (arith, years-≤ c.year, month-low (leap_at c.year) (c
 pub min-under : (a b : ℕ) → a ≤ b → min a b ≡ a
 min-under a b h = omega arith
 
-pub min-over : (a b : ℕ) → b < a → min a b ≡ b
-min-over a b h = omega arith
-
 pub months-within : (c : Counted) (k : ℕ) → Within c → Within (months_on c k)
 unfolding months_on
 months-within c k w =
@@ -177,18 +156,9 @@ pub months-year : (c : Counted) (k : ℕ) → c.month ≤ 12 → k < 2 ^ 32 → 
 unfolding months_on
 months-year c k h g = omega arith
 
-pub clamp-under : (c : Counted) (k l : ℕ) (a : Bool) → let t = c.month - 1 + k in
-    a ≡ leap_at (c.year + t / 12) → l ≡ month_length a (t % 12 + 1) → c.day ≤ l → counted (c.year + t / 12) (t % 12 + 1) c.day ≡ months_on c k
+pub clamped : (c : Counted) (k l d : ℕ) (a : Bool) → let t = c.month - 1 + k in
+    a ≡ leap_at (c.year + t / 12) → l ≡ month_length a (t % 12 + 1) → d ≡ min c.day l → counted (c.year + t / 12) (t % 12 + 1) d ≡ months_on c k
 unfolding months_on
-clamp-under c k l a ea el h =
+clamped c k l d a ea el ed =
     let t = c.month - 1 + k in
-    let e : l ≡ month_length (leap_at (c.year + t / 12)) (t % 12 + 1) = el ∙ ap (λ (b : Bool). month_length b (t % 12 + 1)) ea in
-    ap (counted (c.year + t / 12) (t % 12 + 1)) (sym (min-under c.day (month_length (leap_at (c.year + t / 12)) (t % 12 + 1)) (omega arith)))
-
-pub clamp-over : (c : Counted) (k l : ℕ) (a : Bool) → let t = c.month - 1 + k in
-    a ≡ leap_at (c.year + t / 12) → l ≡ month_length a (t % 12 + 1) → l < c.day → counted (c.year + t / 12) (t % 12 + 1) l ≡ months_on c k
-unfolding months_on
-clamp-over c k l a ea el h =
-    let t = c.month - 1 + k in
-    let e : l ≡ month_length (leap_at (c.year + t / 12)) (t % 12 + 1) = el ∙ ap (λ (b : Bool). month_length b (t % 12 + 1)) ea in
-    ap (counted (c.year + t / 12) (t % 12 + 1)) (e ∙ sym (min-over c.day (month_length (leap_at (c.year + t / 12)) (t % 12 + 1)) (omega arith)))
+    ap (counted (c.year + t / 12) (t % 12 + 1)) (ed ∙ ap (min c.day) (el ∙ ap (λ (b : Bool). month_length b (t % 12 + 1)) ea))

@@ -26,37 +26,18 @@ pub struct Instant {
 pub fn is_leap(y: u64) -> bool
     ensures { result ≡ leap_at y }
 {
-    if y % 4 != 0 {
-        return false;
-    }
-    if y % 100 != 0 {
-        return true;
-    }
-    y % 400 == 0
+    y % 4 == 0 && (y % 100 != 0 || y % 400 == 0)
 }
 
 pub fn month_length(l: bool, m: u64) -> u64
     ensures { result ≡ month_length l m }
 {
-    if m == 2 {
-        if l {
-            return 29;
-        }
-        return 28;
+    match m {
+        2 if l => 29,
+        2 => 28,
+        4 | 6 | 9 | 11 => 30,
+        _ => 31,
     }
-    if m == 4 {
-        return 30;
-    }
-    if m == 6 {
-        return 30;
-    }
-    if m == 9 {
-        return 30;
-    }
-    if m == 11 {
-        return 30;
-    }
-    31
 }
 
 // ---- the count of days
@@ -76,12 +57,12 @@ fn month_start(l: bool, k: u64) -> u64
 {
     let t = (367 * k + 5) / 12;
     if k < 2 {
-        return t;
+        t
+    } else if l {
+        t - 1
+    } else {
+        t - 2
     }
-    if l {
-        return t - 1;
-    }
-    t - 2
 }
 
 // ---- the day with a number
@@ -92,10 +73,7 @@ fn year_at(n: u64) -> u64
     ensures { (years_to result ≤ n) × (n < years_to (result + 1)) × (result < 2 ^ 40) }
 {
     let y = 400 * (n + 1) / 146097;
-    if year_start(y) <= n {
-        return y;
-    }
-    y - 1
+    if year_start(y) <= n { y } else { y - 1 }
 }
 
 // How many months of its year are before it, by the day's place in the year. The guess is at most one too low.
@@ -104,10 +82,7 @@ fn month_at(l: bool, d: u64) -> u64
     ensures { (month_start l result ≤ d) × (d < month_start l (result + 1)) × (result < 12) }
 {
     let k = d / 32;
-    if month_start(l, k + 1) <= d {
-        return k + 1;
-    }
-    k
+    if month_start(l, k + 1) <= d { k + 1 } else { k }
 }
 
 // Both together.
@@ -146,18 +121,10 @@ fn months_on(c: Counted, k: u32) -> Counted
     let y = c.year + t / 12;
     let m = t % 12 + 1;
     let last = month_length(is_leap(y), m);
-    let d = c.day;
-    if d <= last {
-        return Counted {
-            year: y,
-            month: m,
-            day: d,
-        };
-    }
     Counted {
         year: y,
         month: m,
-        day: last,
+        day: c.day.min(last),
     }
 }
 

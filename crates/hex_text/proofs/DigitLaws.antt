@@ -6,7 +6,7 @@ use native.Mathlib.Omega.{arith}
 use native.Mathlib.Numerals.{add-one}
 use borrow.Author.Tests.{le-leb, lt-leb, lt-ltb, le-ltb}
 use lib.ListN.{length, get_or, take, drop, set, length-append}
-use lib.Seq.{take-suc, take-length, set_at, append_snoc, length-take-le}
+use lib.Seq.{take-suc, set_at, append_snoc, length-take-le}
 use Rattle.uuid_text.specs.Rfc4122.{small_digit, hex_text}
 use Rattle.uuid_text.proofs.Digits.{drop-two}
 use Rattle.hex_text.specs.Hex.{hex_of, decimal}
@@ -41,11 +41,6 @@ hex-step s o i x y h room ex ey =
     ap (λ (t : List ℕ). set (set (p ++ t) (2 * i) x) (2 * i + 1) y) (drop-two o (2 * i) (omega arith))
     ∙ set-two p (drop (2 * i + 2) o) (get_or o (2 * i) 0) (get_or o (2 * i + 1) 0) x y (2 * i) lp
     ∙ rw (ex, ey, more, e) refl
-
-pub hex-end : (s o o' : List ℕ) (i : ℕ) → o' ≡ hex_of (take i s) ++ drop (2 * i) o → i ≤ length s → length s ≤ i → o' ≡ hex_of s ++ drop (2 * length s) o
-hex-end s o o' i e h g =
-    let p : i ≡ length s = omega arith in
-    e ∙ ap (λ (k : ℕ). hex_of (take k s) ++ drop (2 * k) o) p ∙ ap (λ (x : List ℕ). hex_of x ++ drop (2 * length s) o) (take-length s)
 
 -- ---- decimal digits
 

@@ -2,17 +2,20 @@
 use Prim.Native.Nat.{ℕ, suc, ◌+◌, ◌*◌, ◌/◌, ◌≤◌, ◌<◌}
 use mathlib.Core.Path.{◌≡◌, refl, sym, ap, ◌∙◌}
 use mathlib.Core.List.{List, [], ◌∷◌, ◌++◌, append-nil}
-use mathlib.Core.Option.{none, some}
+use mathlib.Core.Option.{Option, none, some}
 use native.Mathlib.Omega.{arith}
 use native.Mathlib.Numerals.{add-one}
 use borrow.Author.Tests.{lt-ltb, le-ltb}
 use lib.ListN.{length, get_or, take, drop, set, length-set, drop_of_length-le, take-append-drop}
 use lib.Seq.{drop-cons, drop-drop, drop-set-lt, take-suc-set, length-take-le}
-use Rattle.uuid_text.specs.Uuid.{hex_digit, hex_pair, hex_bytes}
+use Rattle.uuid_text.specs.Uuid.{hex_digit, hex_pair, hex_bytes, parsed}
 use Rattle.uuid_text.proofs.Digits.{hex_bytes-drop, behind, behind-nil, behind-pair}
 use Rattle.hex_text.specs.Line.{sized, line_frame, LineHeld}
-use Rattle.hex_text.specs.declared.Frame.{Frame}
-use Rattle.hex_text.specs.declared.Frame.TheVariants.{Of, Broken, TooLong}
+use Rattle.hex_text.specs.declared.HexError.{HexError}
+use Rattle.hex_text.specs.declared.HexError.TheVariants.{Broken, TooLong}
+use Rattle.std.specs.Prelude.{Result, Ok, Err, MatchResult}
+use Rattle.std.specs.Prelude as std
+use Rattle.std.specs.Option.{ok_or}
 
 -- i pairs of the line d are read into o, which held o₀
 pub record Read (d o o₀ : List ℕ) (i : ℕ) : Type 0 where
@@ -63,22 +66,33 @@ all_read d o o₀ i even r =
     let end : drop (2 * i) d ≡ [] = drop_of_length-le d {i = 2 * i} (omega arith) in
     sym r.whole ∙ ap (λ (t : List ℕ). behind (take i o) (hex_bytes t)) end ∙ ap some (append-nil (take i o))
 
+-- ---- one character, whose value or Broken is asked for
+digit_or : (x : Option ℕ) (r : std.Option ℕ) (v : Result ℕ HexError) → r ≡ parsed x → v ≡ ok_or r Broken → MatchResult v (λ k. x ≡ some k) (λ e. (x ≡ none) × (e ≡ Broken))
+digit_or none r v p q = rw (q, p) (refl, refl)
+digit_or (some k) r v p q = rw (q, p) refl
+
+pub digit-read : (c v : ℕ) (r : std.Option ℕ) → r ≡ parsed (hex_digit c) → Ok v ≡ ok_or r Broken → hex_digit c ≡ some v
+digit-read c v r p q = digit_or (hex_digit c) r (Ok v) p q
+
+pub digit-broken : (c : ℕ) (e : HexError) (r : std.Option ℕ) → r ≡ parsed (hex_digit c) → Err e ≡ ok_or r Broken → (hex_digit c ≡ none) × (e ≡ Broken)
+digit-broken c e r p q = digit_or (hex_digit c) r (Err e) p q
+
 -- ---- the answers
 
-pub long-line : (room : ℕ) (d : List ℕ) → room < length d / 2 → TooLong ≡ line_frame room d
+pub long-line : (room : ℕ) (d : List ℕ) → room < length d / 2 → Err TooLong ≡ line_frame room d
 unfolding line_frame
 long-line room d h = simp (lt-ltb room (length d / 2) h)
 
-pub broken-line : (room : ℕ) (d : List ℕ) → length d / 2 ≤ room → hex_bytes d ≡ none → Broken ≡ line_frame room d
+pub broken-line : (room : ℕ) (d : List ℕ) → length d / 2 ≤ room → hex_bytes d ≡ none → Err Broken ≡ line_frame room d
 unfolding line_frame sized
 broken-line room d h e = simp (le-ltb room (length d / 2) h, e)
 
-pub whole-line : (d o o₀ : List ℕ) (i : ℕ) → i ≤ length o₀ → length d ≡ 2 * i → Read d o o₀ i → Of i ≡ line_frame (length o₀) d
+pub whole-line : (d o o₀ : List ℕ) (i : ℕ) → i ≤ length o₀ → length d ≡ 2 * i → Read d o o₀ i → Ok i ≡ line_frame (length o₀) d
 unfolding line_frame sized
 whole-line d o o₀ i room even r =
     simp (le-ltb (length o₀) (length d / 2) (omega arith), all_read d o o₀ i even r, length-take-le i o (omega (arith, r.size)))
 
-pub held : (d o o₀ : List ℕ) (i : ℕ) → i ≤ length o₀ → length d ≡ 2 * i → Read d o o₀ i → LineHeld (Of i) d o₀ o
+pub held : (d o o₀ : List ℕ) (i : ℕ) → i ≤ length o₀ → length d ≡ 2 * i → Read d o o₀ i → LineHeld (Ok i) d o₀ o
 unfolding LineHeld
 held d o o₀ i room even r = (room, r.size, (λ b e. front b e))
   where

@@ -8,41 +8,32 @@ ghost use Rattle.hex_text.specs.Line.{line_frame, LineHeld};
 
 mod table;
 
-// A line's frame: its length in bytes; a line that isn't whole pairs of digits; more pairs than there is room for.
-#[derive(Clone, Copy)]
-pub enum Frame {
-    Of(usize),
+// Why a line is no frame: it isn't whole pairs of digits; there are more pairs than there is room for.
+#[derive(Clone, Copy, Debug, PartialEq, Eq)]
+pub enum HexError {
     Broken,
     TooLong,
 }
 
-// The bytes of a line's pairs of digits, in either case, to the front of out.
-pub fn from_hex(line: &[u8], out: &mut [u8]) -> Frame
+// The bytes of a line's pairs of digits, in either case, to the front of out, and how many they are.
+pub fn from_hex(line: &[u8], out: &mut [u8]) -> Result<usize, HexError>
     ensures value { result ≡ line_frame (length out.old) line.now }
     ensures line_held { LineHeld result line.now out.old out.new }
 {
     let pairs = line.len() / 2;
     if out.len() < pairs {
-        return Frame::TooLong;
+        return Err(HexError::TooLong);
     }
     let values = table::values();
-    let mut i: usize = 0;
-    while i < pairs {
-        let h = table::value(&values, line[2 * i]);
-        if 16 <= h {
-            return Frame::Broken;
-        }
-        let l = table::value(&values, line[2 * i + 1]);
-        if 16 <= l {
-            return Frame::Broken;
-        }
+    for i in 0..pairs {
+        let h = table::value(&values, line[2 * i]).ok_or(HexError::Broken)?;
+        let l = table::value(&values, line[2 * i + 1]).ok_or(HexError::Broken)?;
         out[i] = h * 16 + l;
-        i += 1;
     }
-    if 2 * i < line.len() {
-        return Frame::Broken;
+    if 2 * pairs < line.len() {
+        return Err(HexError::Broken);
     }
-    Frame::Of(i)
+    Ok(pairs)
 }
 
 // The small digit of a value below 16.
@@ -58,12 +49,9 @@ pub fn to_hex(bytes: &[u8], out: &mut [u8])
     requires { 2 * length bytes.now ≤ length out.old }
     ensures { out.new ≡ hex_of bytes.now ++ drop (2 * length bytes.now) out.old }
 {
-    let mut i: usize = 0;
-    while i < bytes.len() {
-        let b = bytes[i];
-        out[2 * i] = small_digit(b / 16);
-        out[2 * i + 1] = small_digit(b % 16);
-        i += 1;
+    for (i, b) in bytes.iter().enumerate() {
+        out[2 * i] = small_digit(*b / 16);
+        out[2 * i + 1] = small_digit(*b % 16);
     }
 }
 
@@ -75,9 +63,10 @@ pub fn decimal_to(n: u8, out: &mut [u8]) -> usize
 {
     if n < 10 {
         out[0] = small_digit(n);
-        return 1;
+        1
+    } else {
+        out[0] = small_digit(n / 10);
+        out[1] = small_digit(n % 10);
+        2
     }
-    out[0] = small_digit(n / 10);
-    out[1] = small_digit(n % 10);
-    2
 }

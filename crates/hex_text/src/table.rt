@@ -1,7 +1,6 @@
 // The value of each character as a hexadecimal digit, by a table that a caller has at hand for a whole line.
 ghost use Rattle.std.specs.Prelude.{◌≡◌};
-ghost use Rattle.uuid_text.specs.Uuid.{hex_digit};
-ghost use Rattle.uuid_text.specs.Forms.{or_sixteen};
+ghost use Rattle.uuid_text.specs.Uuid.{hex_digit, parsed};
 ghost use Rattle.hex_text.specs.Values.{values};
 
 // 16 where the character is no digit.
@@ -25,9 +24,10 @@ pub fn values() -> [u8; 256]
     VALUES
 }
 
-pub fn value(table: &[u8; 256], c: u8) -> u8
+pub fn value(table: &[u8; 256], c: u8) -> Option<u8>
     requires { table.now ≡ values }
-    ensures { result ≡ or_sixteen (hex_digit c) }
+    ensures { result ≡ parsed (hex_digit c) }
 {
-    table[c as usize]
+    let v = table[usize::from(c)];
+    if v < 16 { Some(v) } else { None }
 }

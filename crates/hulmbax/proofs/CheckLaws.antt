@@ -18,6 +18,9 @@ use Rattle.defaults.specs.Shortness.{SoundRead, test_read}
 use Rattle.frame.specs.Sound.{keys_rise, schema_sound, checked_value}
 use Rattle.frame.proofs.Passed.{whole-reads}
 use Rattle.hulmbax.specs.Answer.{checked_schema}
+use Rattle.base.specs.Refusal.{number_of}
+use Rattle.base.specs.declared.refusal.Refusal.{Refusal}
+use Rattle.base.proofs.Refusals.{number-positive}
 use Rattle.hulmbax.specs.Entry.{PassedSchema, PassedValue, stop_of}
 
 -- ---- the checks
@@ -123,6 +126,10 @@ stop-no-value v e = go (decode_value v) e
 -- ---- what their numbers say
 
 -- a check that stops with n
+-- a refusal's number is not 0
+pub number-never-0 : (e : Refusal) → number_of e ≡ 0 → ⊥
+number-never-0 e z = omega (arith, number-positive e)
+
 pub stops : {A : Type 0} (x : Result A) (n : ℕ) → n ≡ stop_of x → (n ≡ 0 → ⊥) → x ≡ stop n
 unfolding stop_of
 stops (ok a) n e f = absurd (f e)

@@ -1,5 +1,8 @@
 -- The entry's answer as one signed number: it tells which answer it stands for, and a refusal's number can be negated.
-use Prim.Native.Nat.{ℕ, zero, suc, ◌<◌}
+use Prim.Native.Nat.{ℕ, zero, suc, ◌<◌, max}
+use mathlib.Core.Bool.{Bool, true, false}
+use lib.Dec.{ltb}
+use borrow.Author.Tests.{ltb-true, ltb-false}
 use mathlib.Core.Path.{◌≡◌, refl, sym, ap, ◌∙◌, subst}
 use mathlib.Core.List.{List}
 use native.Mathlib.Omega.{arith}
@@ -7,11 +10,9 @@ use lib.IntN.{ℤ, pos, negsuc, neg_ℤ, ◌-ℤ◌, +ℤ_idl}
 use mir.Syntax.{w32}
 use mir.Val.{SFits, to_z, of_z}
 use mir.ValLaws.{to_z-of_z, to_z_pos}
-use Rattle.base.specs.Base.{Result, ok, stop}
+use Rattle.base.specs.Base.{when◌then◌else◌, Result, ok, stop}
 use Rattle.hulmbax.specs.Answer.{answer}
 use Rattle.hulmbax.specs.Entry.{Bounded, Coded, code_of, read_code, resolved_of}
-use Rattle.hulmbax.specs.declared.Resolved.{Resolved}
-use Rattle.hulmbax.specs.declared.Resolved.TheVariants.{Accepted, Refused}
 use Rattle.hulmbax.proofs.Bounds.{Small, answer-small}
 
 -- ---- every answer is a length from 1 or a number from 1
@@ -25,32 +26,41 @@ answer-bounded s v len work = go (answer s v len work) (answer-small s v len wor
     go (stop n) h = h
 
 -- so it has a code
-pub bounded-coded : (r : Resolved) → Bounded r → Coded r
+pub bounded-coded : (r : Result ℕ) → Bounded r → Coded r
 unfolding Bounded Coded
-bounded-coded (Accepted n) h = h.1
-bounded-coded (Refused e) h = h.0
+bounded-coded (ok n) h = h.1
+bounded-coded (stop e) h = h.0
 
 -- ---- which one, the number tells: a record's length is positive, a refusal negative
 
-pub code-accepted : (n : ℕ) → Bounded (Accepted n) → (k : ℕ) × (code_of (Accepted n) ≡ pos (suc k))
+pub code-accepted : (n : ℕ) → Bounded (ok n) → (k : ℕ) × (code_of (ok n) ≡ pos (suc k))
 unfolding Bounded code_of
 code-accepted zero h = absurd (omega (arith, h.0))
 code-accepted (suc k) h = (k, refl)
 
-pub code-refused : (e : ℕ) → Coded (Refused e) → (k : ℕ) × (code_of (Refused e) ≡ negsuc k)
+pub code-refused : (e : ℕ) → Coded (stop e) → (k : ℕ) × (code_of (stop e) ≡ negsuc k)
 unfolding Coded code_of
 code-refused zero h = absurd (omega (arith, h))
 code-refused (suc k) h = (k, refl)
 
-pub read-code : (r : Resolved) → Coded r → read_code (code_of r) ≡ r
+pub read-code : (r : Result ℕ) → Coded r → read_code (code_of r) ≡ r
 unfolding Coded code_of read_code
-read-code (Accepted n) h = refl
-read-code (Refused zero) h = absurd (omega (arith, h))
-read-code (Refused (suc k)) h = refl
+read-code (ok n) h = refl
+read-code (stop zero) h = absurd (omega (arith, h))
+read-code (stop (suc k)) h = refl
 
 -- so two answers with one number are the same
-pub code-injective : (r q : Resolved) → Coded r → Coded q → code_of r ≡ code_of q → r ≡ q
+pub code-injective : (r q : Result ℕ) → Coded r → Coded q → code_of r ≡ code_of q → r ≡ q
 code-injective r q h k e = sym (read-code r h) ∙ ap read_code e ∙ read-code q k
+
+-- ---- how much is cleared without a look
+
+pub at-least : (n : ℕ) → max n 4096 ≡ (when ltb n 4096 then 4096 else n)
+at-least n = go (ltb n 4096) refl
+  where
+    go : (b : Bool) → ltb n 4096 ≡ b → max n 4096 ≡ (when b then 4096 else n)
+    go true e = let h = ltb-true n 4096 e in omega arith
+    go false e = let h = ltb-false n 4096 e in omega arith
 
 -- ---- a refusal's number negated
 

@@ -14,20 +14,21 @@ use Rattle.frame.specs.SchemaFrame.{decode_schema}
 use Rattle.buffer.specs.After.{buffer_after}
 use Rattle.hulmbax.specs.Answer.{answer, answer_for, record_answer, workspace_after, checked_schema, workspace_size}
 use Rattle.hulmbax.specs.Entry.{PassedSchema, resolved_of, stop_of}
-use Rattle.hulmbax.specs.declared.Resolved.{Resolved}
-use Rattle.hulmbax.proofs.CheckLaws.{stops}
+use Rattle.base.specs.Refusal.{number_of}
+use Rattle.base.specs.declared.refusal.Refusal.{Refusal}
+use Rattle.hulmbax.proofs.CheckLaws.{number-never-0, stops}
 use Rattle.hulmbax.proofs.Bounds.{answer_for-not-1}
 
 -- ---- the schema, and the record under it
 
 module _ (s v : List ℕ) where
-  pub stopped-schema : (o : List ℕ) (n : ℕ) → n ≡ stop_of (checked_schema (decode_schema s)) → (n ≡ 0 → ⊥)
-      → (Resolved.Refused n ≡ resolved_of (answer_for s v (length o))) × (o ≡ buffer_after (answer_for s v (length o)) o)
+  pub stopped-schema : (o : List ℕ) (e : Refusal) → number_of e ≡ stop_of (checked_schema (decode_schema s))
+      → (stop (number_of e) ≡ resolved_of (answer_for s v (length o))) × (o ≡ buffer_after (answer_for s v (length o)) o)
   unfolding resolved_of buffer_after after
-  stopped-schema o n e f = rw (stops (checked_schema (decode_schema s)) n e f) (refl, refl)
+  stopped-schema o e f = rw (stops (checked_schema (decode_schema s)) (number_of e) f (number-never-0 e)) (refl, refl)
 
   -- where the schema passed, the answer is what the record gets under its tree
-  pub answered-record : (o o' : List ℕ) (r : Resolved) (p : PassedSchema s)
+  pub answered-record : (o o' : List ℕ) (r : Result ℕ) (p : PassedSchema s)
       → (r ≡ resolved_of (record_answer p.tree v (length o))) → (o' ≡ buffer_after (record_answer p.tree v (length o)) o)
       → (r ≡ resolved_of (answer_for s v (length o))) × (o' ≡ buffer_after (answer_for s v (length o)) o)
   unfolding after
@@ -47,7 +48,7 @@ unfolding answer
 answer-1 s v len work h = rw (is_true (ltb work workspace_size) (lt→ltb work workspace_size h))
 
 pub too_short : (s v o w : List ℕ) → length w < 65536
-    → (Resolved.Refused 1 ≡ resolved_of (answer s v (length o) (length w))) × ((o ≡ buffer_after (answer s v (length o) (length w)) o) × (w ≡ workspace_after (answer s v (length o) (length w)) w))
+    → (stop 1 ≡ resolved_of (answer s v (length o) (length w))) × ((o ≡ buffer_after (answer s v (length o) (length w)) o) × (w ≡ workspace_after (answer s v (length o) (length w)) w))
 unfolding resolved_of buffer_after workspace_after
 too_short s v o w h = rw (answer-1 s v (length o) (length w) h) (refl, (refl, refl))
 
@@ -61,7 +62,7 @@ zeroed (stop n) w f = go (eqb n 1) refl
     go true e = absurd (f (ap (λ (j : ℕ). stop j) (eqb-true n 1 e)))
     go false e = refl
 
-pub cleared : (s v o o' w y z : List ℕ) (r : Resolved) → 65536 ≤ length w → length y ≡ length (take 65536 w) → z ≡ replicate (length (take 65536 (y ++ drop 65536 w))) 0
+pub cleared : (s v o o' w y z : List ℕ) (r : Result ℕ) → 65536 ≤ length w → length y ≡ length (take 65536 w) → z ≡ replicate (length (take 65536 (y ++ drop 65536 w))) 0
     → (r ≡ resolved_of (answer_for s v (length o))) × (o' ≡ buffer_after (answer_for s v (length o)) o)
     → (r ≡ resolved_of (answer s v (length o) (length w))) × ((o' ≡ buffer_after (answer s v (length o) (length w)) o)
     × (z ++ drop 65536 (y ++ drop 65536 w) ≡ workspace_after (answer s v (length o) (length w)) w))

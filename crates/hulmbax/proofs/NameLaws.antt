@@ -11,19 +11,16 @@ use lib.Seq.{length-take-le}
 use borrow.Author.Tests.{lt-ltb, le-ltb, ltb-false}
 use Rattle.base.specs.Base.{when◌then◌else◌, Result, ok, stop}
 use Rattle.buffer.specs.After.{buffer_after, checked_result}
-use Rattle.buffer.specs.declared.Answer.{Answer}
 use Rattle.lists.specs.Frames.{frames}
 use Rattle.current.specs.Current.{Finish, listed}
 use Rattle.corrections.specs.Named.{finishes, places, names_of, names_for, answer_of}
 use Rattle.hulmbax.specs.Answer.{workspace_size, workspace_after}
 use Rattle.hulmbax.specs.Names.{names}
-use Rattle.hulmbax.specs.Entry.{Coded, entry_of, resolved_of}
-use Rattle.hulmbax.specs.declared.Resolved.{Resolved}
-use Rattle.hulmbax.specs.declared.Resolved.TheVariants.{Refused}
+use Rattle.hulmbax.specs.Entry.{Coded, resolved_of}
 use Rattle.hulmbax.proofs.EntryLaws.{zeroed}
 
-entry-answer : (x : Result (List ℕ)) → entry_of (answer_of x) ≡ resolved_of x
-unfolding entry_of answer_of resolved_of
+entry-answer : (x : Result (List ℕ)) → answer_of x ≡ resolved_of x
+unfolding answer_of resolved_of
 entry-answer (ok r) = refl
 entry-answer (stop n) = refl
 
@@ -81,15 +78,15 @@ module _ (input ends o w : List ℕ) where
   abbrev told : Result (List ℕ)
   told = names input ends (length o) (length w)
 
-  pub too_short : length w < 65536 → (Refused 1 ≡ resolved_of told) × ((o ≡ buffer_after told o) × (w ≡ workspace_after told w))
+  pub too_short : length w < 65536 → (stop 1 ≡ resolved_of told) × ((o ≡ buffer_after told o) × (w ≡ workspace_after told w))
   unfolding resolved_of buffer_after workspace_after
   too_short h = rw (names-1 input ends (length o) (length w) h) (refl, (refl, refl))
 
-  pub cleared : (o' z : List ℕ) (a : Answer) (r : Resolved) → 65536 ≤ length w → z ≡ replicate (length (take 65536 w)) 0
-      → (a ≡ answer_of (names_for input ends (length o))) × (o' ≡ buffer_after (names_for input ends (length o)) o) → r ≡ entry_of a
+  pub cleared : (o' z : List ℕ) (r : Result ℕ) → 65536 ≤ length w → z ≡ replicate (length (take 65536 w)) 0
+      → (r ≡ answer_of (names_for input ends (length o))) × (o' ≡ buffer_after (names_for input ends (length o)) o)
       → (r ≡ resolved_of told) × ((o' ≡ buffer_after told o) × (z ++ drop 65536 w ≡ workspace_after told w))
-  cleared o' z a r h e p q =
+  cleared o' z r h e p =
       let n : z ≡ replicate 65536 0 = e ∙ ap (λ (j : ℕ). replicate j 0) (length-take-le 65536 w h) in
       let x = names_for input ends (length o) in
       rw (names-is input ends (length o) (length w) h)
-      (q ∙ ap entry_of p.0 ∙ entry-answer x, (p.1, ap (λ (y : List ℕ). y ++ drop 65536 w) n ∙ sym (zeroed x w (not-1 x (fit input ends (length o))))))
+      (p.0 ∙ entry-answer x, (p.1, ap (λ (y : List ℕ). y ++ drop 65536 w) n ∙ sym (zeroed x w (not-1 x (fit input ends (length o))))))

@@ -8,26 +8,26 @@ use native.Mathlib.Omega.{arith}
 use lib.Dec.{T}
 use lib.ListN.{length, take, drop}
 use lib.Seq.{length-take-le}
+use Rattle.std.specs.Prelude.{Ok, Err}
+use Rattle.base.specs.Refusal.{number_of}
+use Rattle.base.specs.declared.refusal.Refusal.{Refusal}
 use Rattle.base.specs.Base.{when◌then◌else◌, Result, ok, stop, after}
 use Rattle.text.specs.Measured.{Reads}
 use Rattle.frame.specs.Tree.{Value, Schema}
 use Rattle.frame.specs.ValueFrame.{read_value, decode_value, encode_value}
 use Rattle.frame.specs.SchemaFrame.{read_schema, decode_schema}
 use Rattle.buffer.specs.Built.{Built, Wrote}
-use Rattle.buffer.specs.declared.Answer.TheVariants.{Accepted, Refused}
 use Rattle.types.specs.Contract.{encoded, on_both}
 use Rattle.avro.specs.Resolve.{resolve}
 use Rattle.avro.specs.Defaults.{defaults_short}
 use Rattle.walk.specs.Contract.{Node, node_bytes}
-use Rattle.walk.specs.declared.Walk.{Walk}
 use Rattle.frame.specs.Sound.{schema_sound, checked_value}
 use Rattle.buffer.specs.After.{buffer_after, checked_result}
 use Rattle.hulmbax.specs.Answer.{record_answer, checked_schema}
 use Rattle.hulmbax.specs.Entry.{PassedSchema, PassedValue, resolved_of, stop_of}
-use Rattle.hulmbax.specs.declared.Resolved.{Resolved}
 use Rattle.frame.proofs.Passed.{whole-reads, passed_reads}
 use Rattle.buffer.proofs.AfterLaws.{checked_result-over, checked_result-short, checked_result-fits}
-use Rattle.hulmbax.proofs.CheckLaws.{stops}
+use Rattle.hulmbax.proofs.CheckLaws.{number-never-0, stops}
 
 -- ---- what passed
 
@@ -80,10 +80,10 @@ pub both : {P : Type 0} {A B : P → Type 0} → ((p : P) → A p × B p) → ((
 both f = (λ p. (f p).0, λ p. (f p).1)
 
 -- a record that its check stops
-pub record-stopped : (t : Schema) (v o : List ℕ) (n : ℕ) → n ≡ stop_of (checked_value (decode_value v)) → (n ≡ 0 → ⊥)
-    → (Resolved.Refused n ≡ resolved_of (record_answer t v (length o))) × (o ≡ buffer_after (record_answer t v (length o)) o)
+pub record-stopped : (t : Schema) (v o : List ℕ) (e : Refusal) → number_of e ≡ stop_of (checked_value (decode_value v))
+    → (stop (number_of e) ≡ resolved_of (record_answer t v (length o))) × (o ≡ buffer_after (record_answer t v (length o)) o)
 unfolding resolved_of buffer_after record_answer after
-record-stopped t v o n e f = rw (stops (checked_value (decode_value v)) n e f) (refl, refl)
+record-stopped t v o e f = rw (stops (checked_value (decode_value v)) (number_of e) f (number-never-0 e)) (refl, refl)
 
 -- a record that passed, by what resolution wrote and answered, under any tree that its schema passed with
 module _ (s v : List ℕ) (q : PassedValue v) (len : ℕ) (p : PassedSchema s) where
@@ -91,20 +91,20 @@ module _ (s v : List ℕ) (q : PassedValue v) (len : ℕ) (p : PassedSchema s) w
   unfolding record_answer after
   record_answer-is = rw q.passed
 
-  pub record-refused : (o : List ℕ) (e : ℕ) → Wrote (on_both node_bytes (read_schema 16 s) (read_value 16 v)) o (Refused e) → record_answer p.tree v len ≡ stop e
+  pub record-refused : (o : List ℕ) (e : Refusal) → Wrote (on_both node_bytes (read_schema 16 s) (read_value 16 v)) o (Err e) → record_answer p.tree v len ≡ stop (number_of e)
   unfolding Wrote encoded after
   record-refused o e w = record_answer-is ∙ go (resolve p.tree q.tree) (rw (outcome-is s v p q) at w)
     where
-      go : (x : Result Value) → Wrote (encoded x) o (Refused e) → after x (λ y. checked_result len (encode_value y)) ≡ stop e
+      go : (x : Result Value) → Wrote (encoded x) o (Err e) → after x (λ y. checked_result len (encode_value y)) ≡ stop (number_of e)
       go (ok y) w = absurd w
       go (stop k) w = ap (λ (j : ℕ). stop j) (sym w)
 
-  module _ (o : List ℕ) (n : ℕ) (w : Wrote (on_both node_bytes (read_schema 16 s) (read_value 16 v)) o (Accepted n)) where
+  module _ (o : List ℕ) (n : ℕ) (w : Wrote (on_both node_bytes (read_schema 16 s) (read_value 16 v)) o (Ok n)) where
     made : (x : Value) × (record_answer p.tree v len ≡ checked_result len (encode_value x)) × Built (encode_value x) o n
     unfolding Wrote encoded after
     made = go (resolve p.tree q.tree) record_answer-is (rw (outcome-is s v p q) at w)
       where
-        go : (x : Result Value) → record_answer p.tree v len ≡ after x (λ y. checked_result len (encode_value y)) → Wrote (encoded x) o (Accepted n)
+        go : (x : Result Value) → record_answer p.tree v len ≡ after x (λ y. checked_result len (encode_value y)) → Wrote (encoded x) o (Ok n)
             → (x : Value) × (record_answer p.tree v len ≡ checked_result len (encode_value x)) × Built (encode_value x) o n
         go (ok y) q w = (y, q, w)
         go (stop k) q w = absurd w
@@ -126,15 +126,15 @@ module _ (s v : List ℕ) (q : PassedValue v) (len : ℕ) (p : PassedSchema s) w
         (made.1 ∙ checked_result-fits len b (omega arith) (omega arith) ∙ ap (λ (x : List ℕ). ok x) (sym t), length-take-le n o (omega arith))
 
 -- a refusal, and the result buffer as it was
-pub refused-is : (x : Result (List ℕ)) (o : List ℕ) (n : ℕ) → x ≡ stop n → (Resolved.Refused n ≡ resolved_of x) × (o ≡ buffer_after x o)
+pub refused-is : (x : Result (List ℕ)) (o : List ℕ) (n : ℕ) → x ≡ stop n → (stop n ≡ resolved_of x) × (o ≡ buffer_after x o)
 unfolding resolved_of buffer_after
 refused-is x o n e = rw e (refl, refl)
 
 -- an accepted result that fits is copied into the result buffer
-pub handed : (s v : List ℕ) (q : PassedValue v) (o o' w : List ℕ) (n : ℕ) → Wrote (on_both node_bytes (read_schema 16 s) (read_value 16 v)) w (Accepted n) → n ≤ 65535 → n ≤ length o
+pub handed : (s v : List ℕ) (q : PassedValue v) (o o' w : List ℕ) (n : ℕ) → Wrote (on_both node_bytes (read_schema 16 s) (read_value 16 v)) w (Ok n) → n ≤ 65535 → n ≤ length o
     → length w ≡ 65536 → o' ≡ take n w ++ drop (length (take n w)) o → (p : PassedSchema s)
-    → (Resolved.Accepted n ≡ resolved_of (record_answer p.tree v (length o))) × (o' ≡ buffer_after (record_answer p.tree v (length o)) o)
+    → (ok n ≡ resolved_of (record_answer p.tree v (length o))) × (o' ≡ buffer_after (record_answer p.tree v (length o)) o)
 unfolding resolved_of buffer_after
 handed s v q o o' w n a h k l e p =
     let f : (record_answer p.tree v (length o) ≡ ok (take n w)) × (length (take n w) ≡ n) = record-fits s v q (length o) p w n a h k l in
-    rw f.0 (ap (λ (j : ℕ). Resolved.Accepted j) (sym f.1), e)
+    rw f.0 (ap (λ (j : ℕ). ok j) (sym f.1), e)

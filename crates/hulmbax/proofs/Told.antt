@@ -9,13 +9,12 @@ use Rattle.base.specs.Base.{Result, ok, stop}
 use Rattle.buffer.specs.After.{buffer_after}
 use Rattle.hulmbax.specs.Answer.{workspace_after}
 use Rattle.hulmbax.specs.Entry.{resolved_of}
-use Rattle.hulmbax.specs.declared.Resolved.TheVariants.{Accepted, Refused}
 use Rattle.hulmbax.proofs.EntryLaws.{zeroed}
 
 -- ---- the answer
 
 -- an accepted result stands at the front of its buffer, at the length that the call tells
-pub ok-is : (x : Result (List ℕ)) (o o' : List ℕ) (n : ℕ) → Accepted n ≡ resolved_of x → o' ≡ buffer_after x o → (x ≡ ok (take n o')) × (length (take n o') ≡ n)
+pub ok-is : (x : Result (List ℕ)) (o o' : List ℕ) (n : ℕ) → ok n ≡ resolved_of x → o' ≡ buffer_after x o → (x ≡ ok (take n o')) × (length (take n o') ≡ n)
 unfolding resolved_of buffer_after
 ok-is (ok b) o o' n e f =
     let i : n ≡ length b = cc in
@@ -23,7 +22,7 @@ ok-is (ok b) o o' n e f =
     rw k (refl, sym i)
 ok-is (stop m) o o' n e f = let z : ◌≡◌ {A = ℕ} 0 1 = cc in absurd (omega arith)
 
-pub stop_is : (x : Result (List ℕ)) (n : ℕ) → Refused n ≡ resolved_of x → x ≡ stop n
+pub stop_is : (x : Result (List ℕ)) (n : ℕ) → stop n ≡ resolved_of x → x ≡ stop n
 unfolding resolved_of
 stop_is (ok b) n e = let z : ◌≡◌ {A = ℕ} 0 1 = cc in absurd (omega arith)
 stop_is (stop m) n e = let i : m ≡ n = cc in ap (λ (k : ℕ). stop k) i

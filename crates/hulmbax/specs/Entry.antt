@@ -5,16 +5,12 @@ use Rattle.frame.specs.Tree.{Value, Schema}
 use Rattle.frame.specs.ValueFrame.{decode_value}
 use Rattle.frame.specs.SchemaFrame.{decode_schema}
 use Rattle.frame.specs.Sound.{checked_value}
-use Rattle.buffer.specs.declared.Answer.{Answer}
-use Rattle.buffer.specs.declared.Answer.TheVariants as A
 use Rattle.hulmbax.specs.Answer.{checked_schema}
-use Rattle.hulmbax.specs.declared.Resolved.{Resolved}
-use Rattle.hulmbax.specs.declared.Resolved.TheVariants.{Accepted, Refused}
 
 -- an accepted result has its length; a refusal has the rules' number
-unfoldable pub resolved_of : Result (List ℕ) → Resolved
-resolved_of (ok r) = Accepted (length r)
-resolved_of (stop n) = Refused n
+unfoldable pub resolved_of : Result (List ℕ) → Result ℕ
+resolved_of (ok r) = ok (length r)
+resolved_of (stop n) = stop n
 
 -- the number of what stops a step, 0 where nothing does
 unfoldable pub stop_of : {A : Type 0} → Result A → ℕ
@@ -32,31 +28,26 @@ pub record PassedValue (value : List ℕ) : Type 0 where
   pub passed : checked_value (decode_value value) ≡ ok tree
 
 -- the answer as one signed number, for C: a length, or a refusal's number negated
-unfoldable pub code_of : Resolved → ℤ
-code_of (Accepted n) = pos n
-code_of (Refused e) = neg_ℤ (pos e)
+unfoldable pub code_of : Result ℕ → ℤ
+code_of (ok n) = pos n
+code_of (stop e) = neg_ℤ (pos e)
 
 -- how its caller reads that number
-unfoldable pub read_code : ℤ → Resolved
-read_code (pos n) = Accepted n
-read_code (negsuc k) = Refused (suc k)
+unfoldable pub read_code : ℤ → Result ℕ
+read_code (pos n) = ok n
+read_code (negsuc k) = stop (suc k)
 
 -- a length is that of a frame, and a refusal is one of the rules' numbers
-unfoldable pub Bounded : Resolved → Type 0
-Bounded (Accepted n) = (1 ≤ n) × (n ≤ 65535)
-Bounded (Refused e) = (1 ≤ e) × ((e ≤ 18) ⊎ (e ≡ 28))
+unfoldable pub Bounded : Result ℕ → Type 0
+Bounded (ok n) = (1 ≤ n) × (n ≤ 65535)
+Bounded (stop e) = (1 ≤ e) × ((e ≤ 18) ⊎ (e ≡ 28))
 
 -- what a code can tell: a length that it can hold, and a refusal's number, which is not 0
-unfoldable pub Coded : Resolved → Type 0
-Coded (Accepted n) = n ≤ 65535
-Coded (Refused e) = 1 ≤ e
-
--- a step's answer as the entry's
-unfoldable pub entry_of : Answer → Resolved
-entry_of (A.Accepted n) = Accepted n
-entry_of (A.Refused e) = Refused e
+unfoldable pub Coded : Result ℕ → Type 0
+Coded (ok n) = n ≤ 65535
+Coded (stop e) = 1 ≤ e
 
 -- how much of the workspace is cleared without a look: the result, and 4,096 bytes in any case
-unfoldable pub used_for : Resolved → ℕ
-used_for (Accepted n) = when ltb n 4096 then 4096 else n
-used_for (Refused e) = 4096
+unfoldable pub used_for : Result ℕ → ℕ
+used_for (ok n) = when ltb n 4096 then 4096 else n
+used_for (stop e) = 4096

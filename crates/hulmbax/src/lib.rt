@@ -5,127 +5,125 @@ ghost use Rattle.std.specs.Prelude.{◌≡◌, ◌-◌, length};
 ghost use Rattle.frame.specs.ValueFrame.{decode_value};
 ghost use Rattle.frame.specs.SchemaFrame.{decode_schema};
 ghost use Rattle.frame.specs.Sound.{checked_value};
+ghost use Rattle.base.specs.Refusal.{outcome_of};
 ghost use Rattle.buffer.specs.After.{buffer_after, code_for};
 ghost use Rattle.instants.specs.Frames.{civil_for, date_for, sum_for, held_for, held_code};
 ghost use Rattle.hulmbax.specs.Answer.{answer, answer_for, checked_schema, record_answer, workspace_after};
-ghost use Rattle.hulmbax.specs.Entry.{Coded, PassedSchema, PassedValue, code_of, entry_of, resolved_of, stop_of, used_for};
+ghost use Rattle.hulmbax.specs.Entry.{Coded, PassedSchema, PassedValue, code_of, resolved_of, stop_of, used_for};
 ghost use Rattle.hulmbax.specs.Names.{names};
 
-use base::refusal;
-use buffer::Answer;
+use base::refusal::Refusal;
 use frame::Verdict;
 use walk::Walk;
 
-// A result of so many bytes, or the number of what stopped the record.
-#[derive(Clone, Copy)]
-pub enum Resolved {
-    Accepted(usize),
-    Refused(u8),
-}
-
-// What stops the schema: 2, 3 or 4, or 0.
-fn schema_stop(schema: &[u8], work: &mut [u8]) -> u8
-    ensures { result ≡ stop_of (checked_schema (decode_schema schema.now)) }
+// Whether the schema passes its checks: else 2, 3 or 4.
+fn check_schema(schema: &[u8], work: &mut [u8]) -> Result<(), Refusal>
+    ensures { stop_of (outcome_of result) ≡ stop_of (checked_schema (decode_schema schema.now)) }
 {
     match schema::schema_frame(schema) {
-        Verdict::NoFrame => refusal::SCHEMA_NO_FRAME,
-        Verdict::Unsound => refusal::SCHEMA_UNSOUND,
+        Verdict::NoFrame => Err(Refusal::SchemaNoFrame),
+        Verdict::Unsound => Err(Refusal::SchemaUnsound),
         Verdict::Sound => {
             if defaults::defaults_short(schema, work, 16) {
-                0
+                Ok(())
             } else {
-                refusal::DEFAULT_TOO_LONG
+                Err(Refusal::DefaultTooLong)
             }
         }
     }
 }
 
-// What stops the record before it is resolved: 5, or 0.
-fn record_stop(record: &[u8]) -> u8
-    ensures { result ≡ stop_of (checked_value (decode_value «record».now)) }
+// Whether the record passes its check: else 5.
+fn check_record(record: &[u8]) -> Result<(), Refusal>
+    ensures { stop_of (outcome_of result) ≡ stop_of (checked_value (decode_value «record».now)) }
 {
     match value::value_frame(record) {
-        Verdict::NoFrame => refusal::RECORD_NO_FRAME,
-        Verdict::Unsound => refusal::RECORD_NO_FRAME,
-        Verdict::Sound => 0,
+        Verdict::NoFrame => Err(Refusal::RecordNoFrame),
+        Verdict::Unsound => Err(Refusal::RecordNoFrame),
+        Verdict::Sound => Ok(()),
     }
 }
 
 // Resolves frames that passed their checks into the work slice, and hands over a result that fits.
-fn hand_over(schema: &[u8], record: &[u8], res: &mut [u8], work: &mut [u8]) -> Resolved
+fn hand_over(
+    schema: &[u8],
+    record: &[u8],
+    res: &mut [u8],
+    work: &mut [u8],
+) -> Result<usize, Refusal>
     requires { PassedSchema schema.now × PassedValue «record».now × (length work.old ≡ 65536) }
-    ensures answer { (s : PassedSchema schema.now) → result ≡ resolved_of (record_answer s.tree «record».now (length res.old)) }
+    ensures answer { (s : PassedSchema schema.now) → outcome_of result ≡ resolved_of (record_answer s.tree «record».now (length res.old)) }
     ensures contents { (s : PassedSchema schema.now) → res.new ≡ buffer_after (record_answer s.tree «record».now (length res.old)) res.old }
 {
     let whole = Walk {
         schema: 16,
         value: 16,
     };
-    match walk::resolve_node(whole, schema, record, work) {
-        Answer::Accepted(n) => {
-            if 65535 < n {
-                return Resolved::Refused(refusal::RESULT_TOO_LONG);
-            }
-            if res.len() < n {
-                return Resolved::Refused(refusal::RESULT_TOO_LONG);
-            }
-            buffer::copy(res, &work[..n]);
-            Resolved::Accepted(n)
-        }
-        Answer::Refused(e) => Resolved::Refused(e),
+    let n = walk::resolve_node(whole, schema, record, work)?;
+    if 65535 < n {
+        return Err(Refusal::ResultTooLong);
     }
+    if res.len() < n {
+        return Err(Refusal::ResultTooLong);
+    }
+    buffer::copy(res, &work[..n]);
+    Ok(n)
 }
 
 // One record under a schema that passed its checks. The work slice is 65,536 bytes long; what it holds plays no part, and nothing is
 // said of what it holds afterwards, so a caller may go on to the next record with it.
-fn one_record(schema: &[u8], record: &[u8], res: &mut [u8], work: &mut [u8]) -> Resolved
+fn one_record(
+    schema: &[u8],
+    record: &[u8],
+    res: &mut [u8],
+    work: &mut [u8],
+) -> Result<usize, Refusal>
     requires { PassedSchema schema.now × (length work.old ≡ 65536) }
-    ensures answer { (s : PassedSchema schema.now) → result ≡ resolved_of (record_answer s.tree «record».now (length res.old)) }
+    ensures answer { (s : PassedSchema schema.now) → outcome_of result ≡ resolved_of (record_answer s.tree «record».now (length res.old)) }
     ensures contents { (s : PassedSchema schema.now) → res.new ≡ buffer_after (record_answer s.tree «record».now (length res.old)) res.old }
 {
-    let stop = record_stop(record);
-    if stop != 0 {
-        return Resolved::Refused(stop);
-    }
+    check_record(record)?;
     hand_over(schema, record, res, work)
 }
 
 // All but the workspace, of which the first 65,536 bytes are lent: what stops the schema, or what the record gets under it.
-fn resolve_in(schema: &[u8], record: &[u8], res: &mut [u8], work: &mut [u8]) -> Resolved
+fn resolve_in(
+    schema: &[u8],
+    record: &[u8],
+    res: &mut [u8],
+    work: &mut [u8],
+) -> Result<usize, Refusal>
     requires { length work.old ≡ 65536 }
-    ensures answer { result ≡ resolved_of (answer_for schema.now «record».now (length res.old)) }
+    ensures answer { outcome_of result ≡ resolved_of (answer_for schema.now «record».now (length res.old)) }
     ensures contents { res.new ≡ buffer_after (answer_for schema.now «record».now (length res.old)) res.old }
 {
-    let stop = schema_stop(schema, work);
-    if stop != 0 {
-        return Resolved::Refused(stop);
-    }
+    check_schema(schema, work)?;
     one_record(schema, record, res, work)
 }
 
 // How much of the workspace an answer has used, at a guess: its result, and what trials and defaults leave at the front.
-fn used(r: Resolved) -> usize
-    ensures { result ≡ used_for r }
+fn used(told: Result<usize, Refusal>) -> usize
+    ensures { result ≡ used_for (outcome_of told) }
 {
-    match r {
-        Resolved::Accepted(n) => {
-            if n < 4096 {
-                return 4096;
-            }
-            n
-        }
-        Resolved::Refused(_) => 4096,
+    match told {
+        Ok(len) => len.max(4096),
+        Err(_) => 4096,
     }
 }
 
-// The record's frame brought to the reader schema's: the result and its length, or the number of what stops it.
-pub fn resolve(schema: &[u8], record: &[u8], res: &mut [u8], workspace: &mut [u8]) -> Resolved
-    ensures answer { result ≡ resolved_of (answer schema.now «record».now (length res.old) (length workspace.old)) }
+// The record's frame brought to the reader schema's: the result's length, or what stops the record.
+pub fn resolve(
+    schema: &[u8],
+    record: &[u8],
+    res: &mut [u8],
+    workspace: &mut [u8],
+) -> Result<usize, Refusal>
+    ensures answer { outcome_of result ≡ resolved_of (answer schema.now «record».now (length res.old) (length workspace.old)) }
     ensures contents { res.new ≡ buffer_after (answer schema.now «record».now (length res.old) (length workspace.old)) res.old }
     ensures cleared { workspace.new ≡ workspace_after (answer schema.now «record».now (length res.old) (length workspace.old)) workspace.old }
 {
     if workspace.len() < 65536 {
-        return Resolved::Refused(refusal::WORKSPACE_TOO_SHORT);
+        return Err(Refusal::WorkspaceTooShort);
     }
     let told = resolve_in(schema, record, res, &mut workspace[..65536]);
     buffer::clear(&mut workspace[..65536], used(told));
@@ -133,13 +131,13 @@ pub fn resolve(schema: &[u8], record: &[u8], res: &mut [u8], workspace: &mut [u8
 }
 
 // The answer as one signed number for C: the length of an accepted result, or the refusal's number negated.
-fn code(r: Resolved) -> i32
-    requires { Coded r }
-    ensures { result ≡ code_of r }
+fn code(answer: Result<usize, Refusal>) -> i32
+    requires { Coded (outcome_of answer) }
+    ensures { result ≡ code_of (outcome_of answer) }
 {
-    match r {
-        Resolved::Accepted(n) => n as i32,
-        Resolved::Refused(e) => 0 - (e as i32),
+    match answer {
+        Ok(len) => len as i32,
+        Err(e) => 0 - (e.number() as i32),
     }
 }
 
@@ -154,29 +152,24 @@ pub fn hulmbax_resolve(schema: &[u8], record: &[u8], res: &mut [u8], workspace: 
 
 // ---- a corrected finish supersedes the first one (docs/RULES.md, "Corrected finishes")
 
-// What a step answered, as the entry does.
-fn entry_of(a: Answer) -> Resolved
-    ensures { result ≡ entry_of a }
-{
-    match a {
-        Answer::Accepted(length) => Resolved::Accepted(length),
-        Answer::Refused(number) => Resolved::Refused(number),
-    }
-}
-
 // The place of the current frame of each sail, one byte each, in the order in which sails first appear. Frame i of the input goes from
 // the end before it, 0 at first, to `ends[i]`.
-pub fn current(input: &[u8], ends: &[usize], res: &mut [u8], workspace: &mut [u8]) -> Resolved
-    ensures answer { result ≡ resolved_of (names input.now ends.now (length res.old) (length workspace.old)) }
+pub fn current(
+    input: &[u8],
+    ends: &[usize],
+    res: &mut [u8],
+    workspace: &mut [u8],
+) -> Result<usize, Refusal>
+    ensures answer { outcome_of result ≡ resolved_of (names input.now ends.now (length res.old) (length workspace.old)) }
     ensures contents { res.new ≡ buffer_after (names input.now ends.now (length res.old) (length workspace.old)) res.old }
     ensures cleared { workspace.new ≡ workspace_after (names input.now ends.now (length res.old) (length workspace.old)) workspace.old }
 {
     if workspace.len() < 65536 {
-        return Resolved::Refused(refusal::WORKSPACE_TOO_SHORT);
+        return Err(Refusal::WorkspaceTooShort);
     }
-    let told = corrections::current(input, ends, res);
+    let named = corrections::current(input, ends, res);
     buffer::clear(&mut workspace[..65536], 0);
-    entry_of(told)
+    named
 }
 
 // The same entry for C and Rust: what `current` does, and its answer as one number.

@@ -1,18 +1,18 @@
 -- The answers for C at each way of the code: a refusal's number negated with the buffer as it was, or a length with the result in front.
-use Prim.Native.Nat.{ℕ, zero, suc, ◌≤◌, ◌<◌, ◌^◌}
-use mathlib.Core.Path.{◌≡◌, refl, sym, ap, ◌∙◌, subst}
+use Prim.Native.Nat.{ℕ, ◌≤◌, ◌<◌}
+use mathlib.Core.Path.{◌≡◌, refl, sym, ap, ◌∙◌}
 use mathlib.Core.List.{List, [], ◌∷◌, ◌++◌}
 use mathlib.Core.Bool.{Bool, true, false}
 use native.Mathlib.Omega.{arith}
-use lib.Dec.{T}
-use lib.IntN.{ℤ, pos, negsuc, neg_ℤ, nat_abs, ◌-ℤ◌, +ℤ_idl}
+use lib.IntN.{ℤ, pos, negsuc, neg_ℤ, nat_abs}
 use lib.ListN.{length, take, drop, set}
 use lib.Seq.{length-take-le}
-use lib.Signed.{mag, lt_z, non_neg}
+use lib.Signed.{lt_z}
 use mir.Syntax.{w32}
-use mir.Val.{Fits, SFits, to_z, of_z}
+use mir.Val.{SFits, to_z, of_z}
 use mir.ValLaws.{to_z-of_z, to_z_pos}
 use borrow.Author.Tests.{ltb-true}
+use Rattle.std.specs.Int.{from_bool}
 use Rattle.base.specs.Base.{Result, ok, stop, after}
 use Rattle.number.proofs.Laws.{length-bytes_of}
 use Rattle.scalar.specs.Scalars.{content_of}
@@ -23,26 +23,11 @@ use Rattle.buffer.specs.Built.{Built}
 use Rattle.buffer.specs.After.{checked_result, buffer_after, code_for}
 use Rattle.buffer.proofs.AfterLaws.{checked_result-short, checked_result-fits}
 use Rattle.types.specs.Contract.{value_of}
-use Rattle.calendar.specs.declared.Dated.TheVariants.{On, Refused as NoDate}
-use Rattle.calendar.specs.declared.Sum.TheVariants.{To, Refused as NoSum}
-use Rattle.calendar.specs.declared.Held.TheVariants.{Inside, Outside, Refused as NoWindow}
 use Rattle.calendar.specs.declared.Civil.{Civil}
 use Rattle.calendar.specs.Calendar.{civil, civil_of}
 use Rattle.calendar.specs.Instants.{date_of}
-use Rattle.calendar.specs.Answers.{dated_of, sum_of, held_of}
 use Rattle.calendar.proofs.EntryLaws.{civil-small}
 use Rattle.instants.specs.Frames.{frame_sum, sum_for, held_code, civil_for, date_in, date_for}
-
--- ---- a refusal's number, negated
-pub negated_fits : (e : ℕ) → e < 256 → SFits w32 (pos 0 -ℤ to_z w32 e)
-negated_fits e h = subst (λ (z : ℤ). SFits w32 (pos 0 -ℤ z)) (sym (to_z_pos w32 e (omega arith))) (record { sfits = subst (λ (z : ℤ). mag z < 2 ^ 31) (sym (+ℤ_idl (neg_ℤ (pos e)))) (small e h) })
-  where
-    small : (e : ℕ) → e < 256 → mag (neg_ℤ (pos e)) < 2 ^ 31
-    small zero h = omega arith
-    small (suc k) h = omega arith
-
-pub negated-is : (e : ℕ) → e < 256 → to_z w32 (of_z w32 (pos 0 -ℤ to_z w32 e)) ≡ neg_ℤ (pos e)
-negated-is e h = to_z-of_z w32 (pos 0 -ℤ to_z w32 e) (negated_fits e h) ∙ ap (λ (z : ℤ). pos 0 -ℤ z) (to_z_pos w32 e (omega arith)) ∙ +ℤ_idl (neg_ℤ (pos e))
 
 -- ---- answers with a buffer
 module _ {A : Type 0} (r : Result (List A)) (z : ℤ) (b : List A) where
@@ -105,17 +90,7 @@ module _ (s : Scalar) (o : List ℕ) (n : ℕ) (nine : length o ≡ 9) (h : Buil
       (to_z_pos w32 n (omega (arith, written-within)) ∙ ap pos count)
       (e ∙ ap (λ (x : List ℕ). x ++ drop (length x) b) written)
 
--- ---- enums back to results
-pub sum_to : (r : Result Scalar) (s : Scalar) → sum_of r ≡ To s → r ≡ ok s
-unfolding sum_of
-sum_to (ok t) s e = let h : t ≡ s = cc in ap ok h
-sum_to (stop n) s e = let z : ◌≡◌ {A = ℕ} 0 1 = cc in absurd (omega arith)
-
-pub sum-refused : (r : Result Scalar) (n : ℕ) → sum_of r ≡ NoSum n → r ≡ stop n
-unfolding sum_of
-sum-refused (ok t) n e = let z : ◌≡◌ {A = ℕ} 0 1 = cc in absurd (omega arith)
-sum-refused (stop m) n e = let h : m ≡ n = cc in ap (λ (k : ℕ). stop k) h
-
+-- ---- the sum, and the window
 pub sum_for-to : (i d : List ℕ) (l : ℕ) (s : Scalar) → frame_sum i d ≡ ok s → sum_for i d l ≡ checked_result l (frame_of s)
 unfolding sum_for after
 sum_for-to i d l s e = rw e refl
@@ -124,23 +99,10 @@ pub sum_for-refused : (i d : List ℕ) (l n : ℕ) → frame_sum i d ≡ stop n 
 unfolding sum_for after
 sum_for-refused i d l n e = rw e refl
 
-pub held-inside : (r : Result Bool) → held_of r ≡ Inside → pos 1 ≡ held_code r
-unfolding held_of held_code
-held-inside (ok true) e = refl
-held-inside (ok false) e = let z : ◌≡◌ {A = ℕ} 0 1 = cc in absurd (omega arith)
-held-inside (stop n) e = let z : ◌≡◌ {A = ℕ} 0 1 = cc in absurd (omega arith)
-
-pub held-outside : (r : Result Bool) → held_of r ≡ Outside → pos 0 ≡ held_code r
-unfolding held_of held_code
-held-outside (ok true) e = let z : ◌≡◌ {A = ℕ} 0 1 = cc in absurd (omega arith)
-held-outside (ok false) e = refl
-held-outside (stop n) e = let z : ◌≡◌ {A = ℕ} 0 1 = cc in absurd (omega arith)
-
-pub held-refused : (r : Result Bool) (n : ℕ) → held_of r ≡ NoWindow n → neg_ℤ (pos n) ≡ held_code r
-unfolding held_of held_code
-held-refused (ok true) n e = let z : ◌≡◌ {A = ℕ} 0 1 = cc in absurd (omega arith)
-held-refused (ok false) n e = let z : ◌≡◌ {A = ℕ} 0 1 = cc in absurd (omega arith)
-held-refused (stop m) n e = let h : m ≡ n = cc in ap (λ (k : ℕ). neg_ℤ (pos k)) (sym h)
+pub held-ok : (r : Result Bool) (t : Bool) → r ≡ ok t → pos (from_bool t) ≡ held_code r
+unfolding held_code
+held-ok r true e = rw e refl
+held-ok r false e = rw e refl
 
 pub held-stop : (r : Result Bool) (n : ℕ) → r ≡ stop n → neg_ℤ (pos n) ≡ held_code r
 unfolding held_code
@@ -189,13 +151,13 @@ civil-stored c z s f g e h =
     (to_z_pos w32 c.day (day-fits c z f e).sfits ∙ ap (λ (x : Civil). pos x.day) q)
 
 -- ---- a month and a day that may be below 0
-pub date-no-month : (y m d : ℤ) → lt_z m (pos 0) ≡ true → NoDate 27 ≡ dated_of (date_in y m d)
-unfolding date_in dated_of
+pub date-no-month : (y m d : ℤ) → lt_z m (pos 0) ≡ true → stop 27 ≡ date_in y m d
+unfolding date_in
 date-no-month y (pos m) d e = absurd (omega (arith, ltb-true m 0 e))
 date-no-month y (negsuc m) d e = refl
 
-pub date-no-day : (y m d : ℤ) → lt_z m (pos 0) ≡ false → lt_z d (pos 0) ≡ true → NoDate 27 ≡ dated_of (date_in y m d)
-unfolding date_in dated_of
+pub date-no-day : (y m d : ℤ) → lt_z m (pos 0) ≡ false → lt_z d (pos 0) ≡ true → stop 27 ≡ date_in y m d
+unfolding date_in
 date-no-day y (pos m) (pos d) e f = absurd (omega (arith, ltb-true d 0 f))
 date-no-day y (pos m) (negsuc d) e f = refl
 date-no-day y (negsuc m) d e f = let z : ◌≡◌ {A = ℕ} 0 1 = cc in absurd (omega arith)
@@ -207,36 +169,15 @@ date-both y (pos m) (negsuc d) e f = let z : ◌≡◌ {A = ℕ} 0 1 = cc in abs
 date-both y (negsuc m) d e f = let z : ◌≡◌ {A = ℕ} 0 1 = cc in absurd (omega arith)
 
 pub date-told : (y m d : ℤ) → SFits w32 y → SFits w32 m → SFits w32 d → lt_z m (pos 0) ≡ false → lt_z d (pos 0) ≡ false
-    → dated_of (date_of (civil (to_z w32 (of_z w32 y)) (nat_abs (to_z w32 (of_z w32 m))) (nat_abs (to_z w32 (of_z w32 d))))) ≡ dated_of (date_in y m d)
-date-told y m d fy fm fd p q =
-    ap (λ (x : ℤ). dated_of (date_of (civil x (nat_abs (to_z w32 (of_z w32 m))) (nat_abs (to_z w32 (of_z w32 d)))))) (to_z-of_z w32 y fy)
-    ∙ ap (λ (x : ℤ). dated_of (date_of (civil y (nat_abs x) (nat_abs (to_z w32 (of_z w32 d)))))) (to_z-of_z w32 m fm)
-    ∙ ap (λ (x : ℤ). dated_of (date_of (civil y (nat_abs m) (nat_abs x)))) (to_z-of_z w32 d fd)
-    ∙ ap dated_of (date-both y m d p q)
+    → date_of (civil (to_z w32 (of_z w32 y)) (nat_abs (to_z w32 (of_z w32 m))) (nat_abs (to_z w32 (of_z w32 d)))) ≡ date_in y m d
+date-told y m d fy fm fd p q = rw (to_z-of_z w32 y fy, to_z-of_z w32 m fm, to_z-of_z w32 d fd) (date-both y m d p q)
 
 -- a comparison of the code with 0, by its number
 pub told-sign : (z : ℤ) (t : Bool) → SFits w32 z → lt_z (to_z w32 (of_z w32 z)) (pos 0) ≡ t → lt_z z (pos 0) ≡ t
 told-sign z t f e = ap (λ (x : ℤ). lt_z x (pos 0)) (sym (to_z-of_z w32 z f)) ∙ e
 
-pub not-below : (z : ℤ) → SFits w32 z → lt_z z (pos 0) ≡ false → T (non_neg (to_z w32 (of_z w32 z))) × Fits w32 (nat_abs (to_z w32 (of_z w32 z)))
-not-below z f e = subst (λ (x : ℤ). T (non_neg x) × Fits w32 (nat_abs x)) (sym (to_z-of_z w32 z f)) (go z f.sfits e)
-  where
-    go : (z : ℤ) → mag z < 2 ^ 31 → lt_z z (pos 0) ≡ false → T (non_neg z) × Fits w32 (nat_abs z)
-    go (pos n) h e = (tt, record { fits = omega arith })
-    go (negsuc n) h e = let z : ◌≡◌ {A = ℕ} 0 1 = cc in absurd (omega arith)
-
 -- ---- one slot
-pub dated-on : (r : Result ℤ) (z : ℤ) → dated_of r ≡ On z → r ≡ ok z
-unfolding dated_of
-dated-on (ok y) z e = let h : y ≡ z = cc in ap ok h
-dated-on (stop n) z e = let x : ◌≡◌ {A = ℕ} 0 1 = cc in absurd (omega arith)
-
-pub dated-refused : (r : Result ℤ) (n : ℕ) → dated_of r ≡ NoDate n → r ≡ stop n
-unfolding dated_of
-dated-refused (ok y) n e = let x : ◌≡◌ {A = ℕ} 0 1 = cc in absurd (omega arith)
-dated-refused (stop m) n e = let h : m ≡ n = cc in ap (λ (k : ℕ). stop k) h
-
-pub date_in-same : (y m d : ℤ) → SFits w32 y → SFits w32 m → SFits w32 d → dated_of (date_in (to_z w32 (of_z w32 y)) (to_z w32 (of_z w32 m)) (to_z w32 (of_z w32 d))) ≡ dated_of (date_in y m d)
+pub date_in-same : (y m d : ℤ) → SFits w32 y → SFits w32 m → SFits w32 d → date_in (to_z w32 (of_z w32 y)) (to_z w32 (of_z w32 m)) (to_z w32 (of_z w32 d)) ≡ date_in y m d
 date_in-same y m d fy fm fd = cc (to_z-of_z w32 y fy, to_z-of_z w32 m fm, to_z-of_z w32 d fd)
 
 module _ (y m d : ℤ) (s : List ℤ) where

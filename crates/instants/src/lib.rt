@@ -3,6 +3,7 @@
 #![tactic(auto)]
 
 ghost use Rattle.std.specs.Prelude.{◌≡◌, List, ℕ, pos, neg_ℤ, length, get_or};
+ghost use Rattle.base.specs.Refusal.{number_of, outcome_of};
 ghost use Rattle.std.proofs.Math.Option.{some};
 ghost use Rattle.text.specs.Measured.{Reads};
 ghost use Rattle.duration.specs.Duration.{duration_of};
@@ -11,11 +12,10 @@ ghost use Rattle.frame.specs.Tree.{Value, octets};
 ghost use Rattle.frame.specs.ValueFrame.{read_value, encode_value};
 ghost use Rattle.buffer.specs.After.{checked_result, buffer_after, code_for};
 ghost use Rattle.types.specs.Contract.{value_of};
-ghost use Rattle.calendar.specs.Answers.{dated_of, sum_of};
 ghost use Rattle.instants.specs.Frames.{instant_in, frame_sum, sum_for, held_for, held_code, civil_for, date_in, date_for};
 
-use base::refusal;
-use calendar::{Civil, Dated, Held, Sum};
+use base::refusal::Refusal;
+use calendar::Civil;
 use duration::Duration;
 use frame::kind;
 use scalar::Scalar;
@@ -26,9 +26,10 @@ fn instant_in(v: &[u8]) -> Scalar
     ensures { (w : Value) (u : List ℕ) → read_value 16 v.now ≡ some (w, u) → result ≡ instant_in w }
 {
     if scalar::is_scalar(v[0]) {
-        return casts::scalar_at(v, 16);
+        casts::scalar_at(v, 16)
+    } else {
+        Scalar::Int(0)
     }
-    Scalar::Int(0)
 }
 
 // The months, days and milliseconds of a Duration's node.
@@ -42,26 +43,23 @@ fn duration_in(v: &[u8]) -> Duration
 }
 
 // The sum of an instant's frame and a Duration's: 5 for either, then 6, 26 or 27.
-fn frame_sum(instant: &[u8], duration: &[u8]) -> Sum
-    ensures { result ≡ sum_of (frame_sum instant.now duration.now) }
+fn frame_sum(instant: &[u8], duration: &[u8]) -> Result<Scalar, Refusal>
+    ensures { outcome_of result ≡ frame_sum instant.now duration.now }
 {
-    if !value::is_frame(instant) {
-        return Sum::Refused(refusal::RECORD_NO_FRAME);
-    }
-    if !value::is_frame(duration) {
-        return Sum::Refused(refusal::RECORD_NO_FRAME);
+    if !value::is_frame(instant) || !value::is_frame(duration) {
+        return Err(Refusal::RecordNoFrame);
     }
     if duration[0] != kind::DURATION {
-        return Sum::Refused(refusal::UNSUITED);
+        return Err(Refusal::Unsuited);
     }
     calendar::add(instant_in(instant), duration_in(duration))
 }
 
 // A refusal's number, negated.
-fn negated(e: u8) -> i32
-    ensures { result ≡ neg_ℤ (pos e) }
+fn negated(e: Refusal) -> i32
+    ensures { result ≡ neg_ℤ (pos (number_of e)) }
 {
-    0 - (e as i32)
+    -i32::from(e.number())
 }
 
 // A scalar's frame into the front of the buffer, if it fits: its length, or 18.
@@ -72,7 +70,7 @@ fn hand_out(s: Scalar, res: &mut [u8]) -> i32
     let mut b = [0u8; 9];
     let n = casts::put_scalar(&mut b, s);
     if res.len() < n {
-        return negated(refusal::RESULT_TOO_LONG);
+        return negated(Refusal::ResultTooLong);
     }
     buffer::copy(res, &b[..n]);
     n as i32
@@ -84,8 +82,8 @@ pub fn add(instant: &[u8], duration: &[u8], res: &mut [u8]) -> i32
     ensures contents { res.new ≡ buffer_after (sum_for instant.now duration.now (length res.old)) res.old }
 {
     match frame_sum(instant, duration) {
-        Sum::To(s) => hand_out(s, res),
-        Sum::Refused(e) => negated(e),
+        Ok(s) => hand_out(s, res),
+        Err(e) => negated(e),
     }
 }
 
@@ -93,23 +91,16 @@ pub fn add(instant: &[u8], duration: &[u8], res: &mut [u8]) -> i32
 pub fn holds(opening: &[u8], closing: &[u8], instant: &[u8]) -> i32
     ensures { result ≡ held_code (held_for opening.now closing.now instant.now) }
 {
-    if !value::is_frame(opening) {
-        return negated(refusal::RECORD_NO_FRAME);
-    }
-    if !value::is_frame(closing) {
-        return negated(refusal::RECORD_NO_FRAME);
-    }
-    if !value::is_frame(instant) {
-        return negated(refusal::RECORD_NO_FRAME);
+    if !value::is_frame(opening) || !value::is_frame(closing) || !value::is_frame(instant) {
+        return negated(Refusal::RecordNoFrame);
     }
     match calendar::holds(
         instant_in(opening),
         instant_in(closing),
         instant_in(instant),
     ) {
-        Held::Inside => 1,
-        Held::Outside => 0,
-        Held::Refused(e) => negated(e),
+        Ok(held) => i32::from(held),
+        Err(e) => negated(e),
     }
 }
 
@@ -119,30 +110,24 @@ pub fn civil(date: i32, slots: &mut [i32]) -> i32
     ensures contents { slots.new ≡ buffer_after (civil_for date (length slots.old)) slots.old }
 {
     if slots.len() < 3 {
-        return negated(refusal::RESULT_TOO_LONG);
+        return negated(Refusal::ResultTooLong);
     }
     let c = calendar::civil_of(date);
-    let year = c.year;
-    let month = c.month as i32;
-    let day = c.day as i32;
-    slots[0] = year;
-    slots[1] = month;
-    slots[2] = day;
+    slots[0] = c.year;
+    slots[1] = c.month as i32;
+    slots[2] = c.day as i32;
     3
 }
 
 // The Date of a year, month and day, of which the last two may be below 0.
-fn date_in(year: i32, month: i32, day: i32) -> Dated
-    ensures { result ≡ dated_of (date_in year month day) }
+fn date_in(year: i32, month: i32, day: i32) -> Result<i32, Refusal>
+    ensures { outcome_of result ≡ date_in year month day }
 {
-    if month < 0 {
-        return Dated::Refused(refusal::OUTSIDE_CALENDAR);
-    }
-    if day < 0 {
-        return Dated::Refused(refusal::OUTSIDE_CALENDAR);
+    if month < 0 || day < 0 {
+        return Err(Refusal::OutsideCalendar);
     }
     calendar::date_of(Civil {
-        year: year,
+        year,
         month: month as u32,
         day: day as u32,
     })
@@ -154,13 +139,13 @@ pub fn date(year: i32, month: i32, day: i32, slots: &mut [i32]) -> i32
     ensures contents { slots.new ≡ buffer_after (date_for year month day (length slots.old)) slots.old }
 {
     match date_in(year, month, day) {
-        Dated::On(z) => {
-            if slots.len() < 1 {
-                return negated(refusal::RESULT_TOO_LONG);
+        Ok(z) => {
+            if slots.is_empty() {
+                return negated(Refusal::ResultTooLong);
             }
             slots[0] = z;
             1
         }
-        Dated::Refused(e) => negated(e),
+        Err(e) => negated(e),
     }
 }

@@ -7,9 +7,12 @@ ghost use Rattle.std.specs.Prelude.{◌≡◌};
 ghost use Rattle.judge.specs.Mark.{schema_mark, value_mark, mark_of};
 
 use frame::Verdict;
-use streams::tally::{Tally, compared, passed_over};
-use streams::{CanRead, CanWrite, tally};
+use lines::input::Reader;
+use streams::output::Output;
+use streams::tally::Tally;
+use streams::{CanRead, CanWrite};
 
+#[tactic(auto, unfolding(crate::specs::Mark::schema_mark))]
 fn schema_mark(v: Verdict) -> u8
     ensures { result ≡ schema_mark v }
 {
@@ -20,12 +23,12 @@ fn schema_mark(v: Verdict) -> u8
     }
 }
 
+#[tactic(auto, unfolding(crate::specs::Mark::value_mark))]
 fn value_mark(v: Verdict) -> u8
     ensures { result ≡ value_mark v }
 {
     match v {
-        Verdict::NoFrame => b'5',
-        Verdict::Unsound => b'5',
+        Verdict::NoFrame | Verdict::Unsound => b'5',
         Verdict::Sound => b'+',
     }
 }
@@ -44,38 +47,38 @@ fn frame_mark(letter: u8, frame: &[u8]) -> u8
 }
 
 // A line: two characters stand before the frame and two behind it.
-fn counted(rt: &impl CanWrite, t: Tally, line: &[u8], room: &mut [u8]) -> Tally {
+fn counted(t: Tally, line: &[u8], room: &mut [u8], out: &mut Output<'_, impl CanWrite>) -> Tally {
     let n = line.len();
     if n < 4 {
-        return compared(rt, t, false);
+        return t.compared(false, out);
     }
     if line[0] == b'#' {
-        return passed_over(t);
+        return t.passed_over();
     }
     let end = n - 2;
     let k = lines::frame(&line[2..end], room);
     let found = frame_mark(line[0], &room[..k]);
-    compared(rt, t, found == line[n - 1])
+    t.compared(found == line[n - 1], out)
 }
 
-// A proved loop has to end, and nothing says that the input does. So the turns are counted down from a number that no run uses up.
-fn all(
-    rt: &(impl CanRead + CanWrite),
+// The list, up to its end or the first write that fails.
+// A proved loop has to end, and nothing says that the input does. So there are as many turns as no run uses up.
+fn all<R: CanRead + CanWrite>(
+    rt: &R,
     block: &mut [u8],
     line: &mut [u8],
     room: &mut [u8],
+    out: &mut Output<'_, R>,
 ) -> Tally {
-    let mut r = lines::input::start();
-    let mut t = tally::start();
-    let mut turns = u64::MAX;
-    while turns > 0 {
+    let mut r = Reader::start();
+    let mut t = Tally::start();
+    for _ in 0..u64::MAX {
         r = streams::input::next(rt, r, block, line);
-        if !r.whole || !t.ok {
+        if !r.whole || !out.ok {
             return t;
         }
         let n = r.filled;
-        t = counted(rt, t, &line[0..n], room);
-        turns -= 1;
+        t = counted(t, &line[0..n], room, out);
     }
     t
 }
@@ -91,6 +94,7 @@ fn main(rt: HostRuntime) {
     let mut block = [0u8; 65536];
     let mut line = [0u8; 131200];
     let mut room = [0u8; 65600];
-    let t = all(&rt, &mut block, &mut line, &mut room);
-    tally::report(&rt, t, b" frames");
+    let mut out = Output::new(&rt);
+    let t = all(&rt, &mut block, &mut line, &mut room, &mut out);
+    t.report(b" frames", &mut out);
 }

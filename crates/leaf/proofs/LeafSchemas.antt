@@ -11,7 +11,9 @@ use lib.Dec.{leb}
 use lib.ListN.{length, get_or, take, drop, length-drop}
 use lib.Seq.{drop-drop, get_or-drop}
 use borrow.Author.Tests.{leb-true, leb-false}
+use Rattle.std.specs.Prelude as std
 use Rattle.base.specs.Base.{Result}
+use Rattle.base.specs.declared.refusal.Refusal.{Refusal}
 use Rattle.number.specs.Number.{big_endian, number_at}
 use Rattle.text.specs.Text.{Text}
 use Rattle.text.specs.Read.{Read, read_number}
@@ -23,7 +25,6 @@ use Rattle.frame.specs.SchemaFrame.{read_symbols, read_formed, read_schema_conte
 use Rattle.frame.proofs.Reading.{map-inv, not-reads, option-empty, option-zero, option-one-none, option-one-some, option-other}
 use Rattle.frame.proofs.SchemaNodes.{schema-opened}
 use Rattle.buffer.specs.Built.{Wrote}
-use Rattle.buffer.specs.declared.Answer.{Answer}
 use Rattle.types.specs.Types.{Outcome, resolve_plain, resolve_bytes, resolve_string, resolve_fixed, resolve_decimal, resolve_uuid, resolve_duration}
 use Rattle.types.specs.Contract.{encoded, on_read, on_both}
 use Rattle.symbols.specs.Search.{resolve_enum_at}
@@ -33,7 +34,7 @@ use Rattle.leaf.specs.Leaf.{Childless, resolve_peeled, peeled_bytes}
 
 -- ---- answers
 
-pub wrote-eq : (x y : Result (List ℕ)) (o : List ℕ) (r : Answer) → x ≡ y → Wrote y o r → Wrote x o r
+pub wrote-eq : (x y : Result (List ℕ)) (o : List ℕ) (r : std.Result ℕ Refusal) → x ≡ y → Wrote y o r → Wrote x o r
 wrote-eq x y o r e w = subst (λ u. Wrote u o r) (sym e) w
 
 -- ---- trees and lengths
@@ -134,7 +135,7 @@ module _ (d : ℕ) (s : List ℕ) (p : Reads (read_schema d s)) where
       form-two = omega (arith, by_contra 2 (get_or s 1 0) (λ h. omega arith), by_contra (get_or s 1 0) 2 (λ h. never 15 e (uuid-other _ _ _ form-head (λ q. omega (arith, byte_at 1)) (λ q. omega (arith, byte_at 1)) (λ q. omega (arith, byte_at 1)))), byte_at 1)
 
       form-size : 3 ≤ length (drop 1 s)
-      form-size = by_contra _ _ (λ h. never 15 e (uuid-short _ _ _ form-head form-two h))
+      form-size = by_contra _ _ (λ h. never 15 e (uuid-short _ _ _ form-head h (omega (arith, form-two))))
 
       pub uuid-fixed-long : 4 ≤ length s
       uuid-fixed-long = omega (arith, length-drop 1 s, form-size)

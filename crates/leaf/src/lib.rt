@@ -11,10 +11,10 @@ ghost use Rattle.buffer.specs.Built.{Wrote};
 ghost use Rattle.types.specs.Contract.{on_both};
 ghost use Rattle.leaf.specs.Leaf.{Childless, peeled_bytes};
 
-use buffer::Answer;
+use base::refusal::Refusal;
 use frame::kind;
 
-fn leaf_fixed(s: &[u8], v: &[u8], out: &mut [u8], ds: usize, dv: usize) -> Answer
+fn leaf_fixed(s: &[u8], v: &[u8], out: &mut [u8], ds: usize, dv: usize) -> Result<usize, Refusal>
     requires { Reads (read_schema ds s.now) × Reads (read_value dv v.now) × (get_or s.now 0 0 ≡ Kind.Fixed) }
     ensures { Wrote (on_both peeled_bytes (read_schema ds s.now) (read_value dv v.now)) out.new result }
 {
@@ -22,59 +22,52 @@ fn leaf_fixed(s: &[u8], v: &[u8], out: &mut [u8], ds: usize, dv: usize) -> Answe
 }
 
 // Precision, scale, and the size if the decimal is on a fixed.
-fn leaf_decimal(s: &[u8], v: &[u8], out: &mut [u8], ds: usize, dv: usize) -> Answer
+fn leaf_decimal(s: &[u8], v: &[u8], out: &mut [u8], ds: usize, dv: usize) -> Result<usize, Refusal>
     requires { Reads (read_schema ds s.now) × Reads (read_value dv v.now) × (get_or s.now 0 0 ≡ Kind.Decimal) }
     ensures { Wrote (on_both peeled_bytes (read_schema ds s.now) (read_value dv v.now)) out.new result }
 {
     let precision = number::read4(s, 1);
     let scale = number::read4(s, 5);
-    if s[9] == 1 {
-        let size = number::read2(s, 10) as usize;
-        return octets::resolve_decimal(precision, scale, true, size, v, out, dv);
-    }
-    octets::resolve_decimal(precision, scale, false, 0, v, out, dv)
+    let size = if s[9] == 1 {
+        Some(number::read2(s, 10) as usize)
+    } else {
+        None
+    };
+    octets::resolve_decimal(precision, scale, size, v, out, dv)
 }
 
 // The form byte: on bytes, on a string, or on a fixed.
-fn leaf_uuid(s: &[u8], v: &[u8], out: &mut [u8], ds: usize, dv: usize) -> Answer
+fn leaf_uuid(s: &[u8], v: &[u8], out: &mut [u8], ds: usize, dv: usize) -> Result<usize, Refusal>
     requires { Reads (read_schema ds s.now) × Reads (read_value dv v.now) × (get_or s.now 0 0 ≡ Kind.Uuid) }
     ensures { Wrote (on_both peeled_bytes (read_schema ds s.now) (read_value dv v.now)) out.new result }
 {
-    if s[1] == 0 {
-        return octets::resolve_uuid_bytes(v, out, dv);
+    match s[1] {
+        0 => octets::resolve_uuid_bytes(v, out, dv),
+        1 => octets::resolve_uuid_string(v, out, dv),
+        _ => octets::resolve_uuid_fixed(number::read2(s, 2) as usize, v, out, dv),
     }
-    if s[1] == 1 {
-        return octets::resolve_uuid_string(v, out, dv);
-    }
-    octets::resolve_uuid_fixed(number::read2(s, 2) as usize, v, out, dv)
 }
 
 // The kinds with content, Bytes and String first; the others are resolved by their kind alone.
-pub fn resolve_leaf(s: &[u8], v: &[u8], out: &mut [u8], ds: usize, dv: usize) -> Answer
+pub fn resolve_leaf(
+    s: &[u8],
+    v: &[u8],
+    out: &mut [u8],
+    ds: usize,
+    dv: usize,
+) -> Result<usize, Refusal>
     requires { Reads (read_schema ds s.now) × Reads (read_value dv v.now) × Childless s.now }
     ensures { Wrote (on_both peeled_bytes (read_schema ds s.now) (read_value dv v.now)) out.new result }
 {
     let k = s[0];
-    if k == kind::BYTES {
-        return bytewise::resolve_bytes(v, out, dv);
+    match k {
+        kind::BYTES => bytewise::resolve_bytes(v, out, dv),
+        kind::STRING => octets::resolve_string(v, out, dv),
+        kind::ENUM => symbols::resolve_enum(s, ds, v, out, dv),
+        kind::FIXED => leaf_fixed(s, v, out, ds, dv),
+        kind::DECIMAL => leaf_decimal(s, v, out, ds, dv),
+        kind::UUID => leaf_uuid(s, v, out, ds, dv),
+        kind::DURATION => octets::resolve_duration(v, out, dv),
+        _ => casts::resolve_plain(v, out, dv, k),
     }
-    if k == kind::STRING {
-        return octets::resolve_string(v, out, dv);
-    }
-    if k == kind::ENUM {
-        return symbols::resolve_enum(s, ds, v, out, dv);
-    }
-    if k == kind::FIXED {
-        return leaf_fixed(s, v, out, ds, dv);
-    }
-    if k == kind::DECIMAL {
-        return leaf_decimal(s, v, out, ds, dv);
-    }
-    if k == kind::UUID {
-        return leaf_uuid(s, v, out, ds, dv);
-    }
-    if k == kind::DURATION {
-        return octets::resolve_duration(v, out, dv);
-    }
-    casts::resolve_plain(v, out, dv, k)
 }

@@ -1,15 +1,18 @@
 -- The first newline ends the first line of a text, also where the line comes in pieces. Assumes nothing.
 use Prim.Native.Nat.{ℕ, suc, ◌+◌, ◌≤◌, ◌<◌, suc-le-suc}
-use mathlib.Core.Path.{◌≡◌, refl, ap, ◌∙◌}
+use mathlib.Core.Path.{◌≡◌, refl, sym, ap, ◌∙◌}
 use mathlib.Core.List.{List, [], ◌∷◌, ◌++◌}
-use mathlib.Core.Bool.{Bool, true, false}
+use mathlib.Core.Bool.{Bool, true, false, cond}
 use native.Mathlib.Omega.{arith}
-use native.Mathlib.Numerals.{add-one}
 use native.Mathlib.Nat.{le_of_suc-le-suc, suc_inj}
-use borrow.Author.Tests.{eq-eqb, ne_eqb}
-use lib.Dec.{eqb}
-use lib.ListN.{length, get_or, take, drop, length-append}
-use lib.Seq.{drop-cons, drop-length, take-append-add, drop-append-add}
+use borrow.Author.Tests.{ltb-false}
+use lib.Dec.{eqb, ltb}
+use lib.ListN.{length, take, drop, length-append}
+use lib.Seq.{take-append-add, drop-append-add}
+use Rattle.std.proofs.lemmas.List.Recursion.{is_position_or_len}
+use Rattle.std.specs.List.{position, position_or_len}
+use Rattle.std.specs.Prelude.{Some, None}
+use Rattle.std.specs.Option.{unwrap_or}
 use Rattle.base.specs.Base.{when◌then◌else◌}
 use Rattle.text.specs.Text.{Text}
 use Rattle.lines.specs.Cut.{newline, onto, lines, line_end, first_line, behind_line}
@@ -25,25 +28,29 @@ unfolding line_end
 line_end-le [] = omega arith
 line_end-le (c ∷ s) = end-le (eqb c newline) (line_end s) (length s) (line_end-le s)
 
-module _ (s : Text) (i : ℕ) (h : i < length s) (e : line_end s ≡ i + line_end (drop i s)) where
-  pub end-here : get_or s i 0 ≡ newline → i ≡ line_end s
-  unfolding line_end
-  end-here n =
-      let d : line_end (drop i s) ≡ 0 = ap line_end (drop-cons s i 0 h) ∙ rw (eq-eqb (get_or s i 0) newline n) in
-      omega arith
+end-step : (b : Bool) (n : ℕ) → (when b then 0 else suc n) ≡ cond b 0 (1 + n)
+end-step true n = refl
+end-step false n = omega arith
 
-  pub end-past : (get_or s i 0 ≡ newline → ⊥) → line_end s ≡ (i + 1) + line_end (drop (i + 1) s)
-  unfolding line_end
-  end-past n =
-      let d : line_end (drop i s) ≡ suc (line_end (drop (suc i) s)) = ap line_end (drop-cons s i 0 h) ∙ rw (ne_eqb (get_or s i 0) newline n) in
-      rw add-one (omega arith)
-
-pub end_none : (s : Text) (i : ℕ) → line_end s ≡ i + line_end (drop i s) → i ≤ length s → length s ≤ i → i ≡ line_end s
+line_end-cons : (c : ℕ) (s : Text) → line_end (c ∷ s) ≡ cond (eqb c newline) 0 (1 + line_end s)
 unfolding line_end
-end_none s i e h g =
-    let p : i ≡ length s = omega arith in
-    let d : line_end (drop i s) ≡ 0 = ap (λ (k : ℕ). line_end (drop k s)) p ∙ ap line_end (drop-length s) in
-    omega arith
+line_end-cons c s = end-step (eqb c newline) (line_end s)
+
+line_end-nil : line_end [] ≡ 0
+unfolding line_end
+line_end-nil = refl
+
+-- the place that std's search finds, all characters where it finds none
+pub line_end-found : (s : Text) → unwrap_or (position (λ c. eqb c newline) s) (length s) ≡ line_end s
+line_end-found s = go (ltb (position_or_len (λ c. eqb c newline) s) (length s)) refl
+  where
+    at : line_end s ≡ position_or_len (λ c. eqb c newline) s
+    at = is_position_or_len line_end (λ c. eqb c newline) line_end-nil line_end-cons s
+
+    go : (b : Bool) → ltb (position_or_len (λ c. eqb c newline) s) (length s) ≡ b
+        → unwrap_or (cond b (Some (position_or_len (λ c. eqb c newline) s)) None) (length s) ≡ line_end s
+    go true e = sym at
+    go false e = omega (arith, ltb-false (position_or_len (λ c. eqb c newline) s) (length s) e, line_end-le s, at)
 
 -- ---- the lines
 

@@ -4,7 +4,6 @@ use mathlib.Core.Path.{◌≡◌, refl, sym, ap, ◌∙◌}
 use mathlib.Core.List.{List, [], ◌∷◌, ◌++◌, append_assoc, append-nil}
 use mathlib.Core.Option
 use mathlib.Core.Option.{Option, none, some}
-use mathlib.Core.Logic.{◌⊎◌, ⊎_elim}
 use mathlib.Core.Bool.{Bool, true, false}
 use native.Mathlib.Omega.{arith}
 use native.Mathlib.Numerals.{add-one}
@@ -12,13 +11,15 @@ use borrow.Author.Rules.{part_to_end}
 use lib.Dec.{ltb}
 use lib.ListN.{length, get_or, take, drop, set, length-append, length-drop, drop_of_length-le, take-append-drop}
 use lib.Seq.{take_at, drop_at, drop-cons, drop-drop, set_at, length-take-le}
+use Rattle.std.specs.Prelude.{Result, Ok, Err}
+use Rattle.std.specs.Result.{result_unwrap_or}
 use Rattle.base.specs.Base.{when◌then◌else◌, ok, stop}
 use Rattle.text.specs.Text.{Text, ascii}
 use Rattle.uuid_text.specs.Uuid.{hex_bytes}
 use Rattle.hex_text.specs.Hex.{frame_of, hex_of, decimal}
 use Rattle.hex_text.specs.Line.{sized, line_frame, LineHeld}
-use Rattle.hex_text.specs.declared.Frame.{Frame}
-use Rattle.hex_text.specs.declared.Frame.TheVariants.{Of, Broken, TooLong}
+use Rattle.hex_text.specs.declared.HexError.{HexError}
+use Rattle.hex_text.specs.declared.HexError.TheVariants.{TooLong}
 use Rattle.hex_text.proofs.DigitLaws.{length-hex_of}
 use Rattle.lines.specs.Cut.{newline}
 use Rattle.lines.specs.Line.{answer_line, held_frame}
@@ -113,32 +114,26 @@ no_line k n m o y o' l g w p =
 -- ---- the frame of a line
 
 held_at : (room : ℕ) (l : Text) (b : Bool) (h : Option (List ℕ)) → ltb room (length l / 2) ≡ b → hex_bytes l ≡ h
-    → (line_frame room l ≡ (when b then TooLong else sized h)) × (held_frame room l ≡ (when b then [] else Option.get_or h []))
+    → (line_frame room l ≡ (when b then Err TooLong else sized h)) × (held_frame room l ≡ (when b then [] else Option.get_or h []))
 unfolding line_frame held_frame frame_of
 held_at room l b h p q = (rw (p, q), rw (p, q))
 
-module _ (f : Frame) (l o o' : List ℕ) (e : f ≡ line_frame (length o) l) (h : LineHeld f l o o') where
-  pub frame-of : (n : ℕ) → f ≡ Of n → ((n ≡ length (held_frame (length o) l)) × (n ≤ length o')) × (take n o' ≡ held_frame (length o) l)
+module _ (f : Result ℕ HexError) (l o o' : List ℕ) (e : f ≡ line_frame (length o) l) (h : LineHeld f l o o') where
+  -- the frame where there is one, no bytes where there is none
+  pub frame-of : (n : ℕ) → n ≡ result_unwrap_or f 0 → ((n ≡ length (held_frame (length o) l)) × (n ≤ length o')) × (take n o' ≡ held_frame (length o) l)
   unfolding sized LineHeld
   frame-of n p = go (ltb (length o) (length l / 2)) (hex_bytes l) refl refl
     where
       go : (b : Bool) (x : Option (List ℕ)) → ltb (length o) (length l / 2) ≡ b → hex_bytes l ≡ x → ((n ≡ length (held_frame (length o) l)) × (n ≤ length o')) × (take n o' ≡ held_frame (length o) l)
-      go true x q r = let z : ◌≡◌ {A = ℕ} 0 1 = cc (held_at (length o) l true x q r).0 in absurd (omega arith)
-      go false none q r = let z : ◌≡◌ {A = ℕ} 0 1 = cc (held_at (length o) l false none q r).0 in absurd (omega arith)
+      go true x q r =
+          let i : n ≡ 0 = p ∙ ap (λ (t : Result ℕ HexError). result_unwrap_or t 0) (e ∙ (held_at (length o) l true x q r).0) in
+          rw ((held_at (length o) l true x q r).1, i) ((refl, omega arith), refl)
+      go false none q r =
+          let i : n ≡ 0 = p ∙ ap (λ (t : Result ℕ HexError). result_unwrap_or t 0) (e ∙ (held_at (length o) l false none q r).0) in
+          rw ((held_at (length o) l false none q r).1, i) ((refl, omega arith), refl)
       go false (some b) q r =
-          let i : n ≡ length b = cc (held_at (length o) l false (some b) q r).0 in
+          let w : f ≡ Ok (length b) = e ∙ (held_at (length o) l false (some b) q r).0 in
+          let i : n ≡ length b = p ∙ ap (λ (t : Result ℕ HexError). result_unwrap_or t 0) w in
           let k : held_frame (length o) l ≡ b = (held_at (length o) l false (some b) q r).1 in
-          let g : LineHeld (Of n) l o o' = rw p at h in
+          let g : LineHeld (Ok (length b)) l o o' = rw w at h in
           rw k ((i, omega (arith, g.0, g.1)), ap (take n) (g.2 b r) ∙ take_at b (drop (length b) o) n (sym i))
-
-  pub no-frame : (f ≡ Broken) ⊎ (f ≡ TooLong) → ((0 ≡ length (held_frame (length o) l)) × (0 ≤ length o')) × ([] ≡ held_frame (length o) l)
-  unfolding sized
-  no-frame p = go (ltb (length o) (length l / 2)) (hex_bytes l) refl refl
-    where
-      go : (b : Bool) (x : Option (List ℕ)) → ltb (length o) (length l / 2) ≡ b → hex_bytes l ≡ x → ((0 ≡ length (held_frame (length o) l)) × (0 ≤ length o')) × ([] ≡ held_frame (length o) l)
-      go true x q r = rw (held_at (length o) l true x q r).1 ((refl, omega arith), refl)
-      go false none q r = rw (held_at (length o) l false none q r).1 ((refl, omega arith), refl)
-      go false (some b) q r = absurd (⊎_elim
-          (λ w. let z : ◌≡◌ {A = ℕ} 0 1 = cc (held_at (length o) l false (some b) q r).0 in omega arith)
-          (λ w. let z : ◌≡◌ {A = ℕ} 0 1 = cc (held_at (length o) l false (some b) q r).0 in omega arith)
-          p)

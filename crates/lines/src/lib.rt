@@ -13,11 +13,7 @@ pub fn frame(line: &[u8], out: &mut [u8]) -> usize
     ensures value { (result ≡ length (held_frame (length out.old) line.now)) × (result ≤ length out.new) }
     ensures out_after { take result out.new ≡ held_frame (length out.old) line.now }
 {
-    match hex_text::from_hex(line, out) {
-        hex_text::Frame::Of(n) => n,
-        hex_text::Frame::Broken => 0,
-        hex_text::Frame::TooLong => 0,
-    }
+    hex_text::from_hex(line, out).unwrap_or(0)
 }
 
 // A sign and a space in front of the n characters from out[2] on, and a newline behind them; the line's length.

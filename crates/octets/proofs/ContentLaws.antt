@@ -3,15 +3,15 @@ use Prim.Native.Nat.{ℕ, ◌+◌, ◌≤◌, ◌<◌, min}
 use mathlib.Core.Path.{◌≡◌, refl, sym, ap, ◌∙◌, subst}
 use mathlib.Core.List.{List, [], ◌∷◌, ◌++◌, append-nil}
 use mathlib.Core.Option.{Option, none, some}
-use mathlib.Core.Bool.{true, false}
 use native.Mathlib.Omega.{arith}
 use lib.ListN.{length, get_or, drop, length-drop}
 use lib.Seq.{drop-length, drop-drop}
+use Rattle.std.specs.Prelude as std
+use Rattle.std.specs.Prelude.{Some, None}
 use Rattle.text.specs.Read.{read_counted}
 use Rattle.text.specs.Measured.{Reads}
 use Rattle.text.proofs.ReadLaws.{reads-counted}
 use Rattle.uuid_text.specs.Uuid.{parsed}
-use Rattle.uuid_text.specs.declared.Parsed.{Parsed}
 use Rattle.duration.specs.declared.Duration.{Duration}
 use Rattle.duration.specs.Duration.{duration_of, duration_bytes}
 use Rattle.duration.proofs.RoundTrip.{duration_bytes-duration_of}
@@ -40,15 +40,13 @@ built-points b x rest o n r e f g h = built-front b rest o r (g ∙ ap (λ (m : 
 
 -- ---- what the UUID parser answers
 
-pub parsed-ok : (x : Option (List ℕ)) (p : Parsed) → p ≡ parsed x → p.ok ≡ true → x ≡ some p.bytes
-unfolding parsed
-parsed-ok none p e h = let z : false ≡ true = sym (ap (λ (q : Parsed). q.ok) e) ∙ h in let y : ◌≡◌ {A = ℕ} 0 1 = cc in absurd (omega arith)
-parsed-ok (some b) p e h = ap some (sym (ap (λ (q : Parsed). q.bytes) e))
+pub parsed-ok : (x : Option (List ℕ)) (p : std.Option (List ℕ)) (b : List ℕ) → p ≡ parsed x → p ≡ Some b → x ≡ some b
+parsed-ok none p b e h = let z : ◌≡◌ {A = ℕ} 0 1 = cc in absurd (omega arith)
+parsed-ok (some d) p b e h = let i : d ≡ b = cc in ap some i
 
-pub parsed-not : (x : Option (List ℕ)) (p : Parsed) → p ≡ parsed x → p.ok ≡ false → x ≡ none
-unfolding parsed
+pub parsed-not : (x : Option (List ℕ)) (p : std.Option (List ℕ)) → p ≡ parsed x → p ≡ None → x ≡ none
 parsed-not none p e h = refl
-parsed-not (some b) p e h = let z : true ≡ false = sym (ap (λ (q : Parsed). q.ok) e) ∙ h in let y : ◌≡◌ {A = ℕ} 0 1 = cc in absurd (omega arith)
+parsed-not (some d) p e h = let z : ◌≡◌ {A = ℕ} 0 1 = cc in absurd (omega arith)
 
 -- ---- a Duration
 

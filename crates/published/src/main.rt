@@ -8,23 +8,22 @@
 mod line;
 mod number_line;
 mod text_line;
-mod told;
 
+use lines::input::Reader;
+use streams::output::Output;
 use streams::{CanRead, CanWrite};
 
-// A proved loop has to end, and nothing says that the input does. So the turns are counted down from a number that no run uses up.
-fn all(rt: &(impl CanRead + CanWrite), block: &mut [u8], text: &mut [u8]) {
-    let mut r = lines::input::start();
-    let mut ok = true;
-    let mut turns = u64::MAX;
-    while turns > 0 {
+// A proved loop has to end, and nothing says that the input does. So there are as many turns as no run uses up.
+fn all<R: CanRead + CanWrite>(rt: &R, block: &mut [u8], text: &mut [u8]) {
+    let mut out = Output::new(rt);
+    let mut r = Reader::start();
+    for _ in 0..u64::MAX {
         r = streams::input::next(rt, r, block, text);
-        if !r.whole || !ok {
+        if !r.whole || !out.ok {
             return;
         }
         let n = r.filled;
-        ok = line::answer(rt, ok, &text[0..n]);
-        turns -= 1;
+        line::answer(&mut out, &text[0..n]);
     }
 }
 

@@ -1,118 +1,109 @@
 // Lines of texts: UTF-8, code points that fit a byte, UUID texts, the five texts of a Float and the comparison of names.
+// Each function answers whether a leaf has the line's name and was given what that leaf takes.
 ghost use Rattle.std.specs.Prelude.{◌≡◌, true};
 ghost use Rattle.utf8.specs.Utf8.{is_utf8};
 
 use crate::line::space;
-use crate::told::{Told, known, unknown};
 use streams::CanWrite;
-use streams::output::{put, put_decimal, put_hex};
+use streams::output::Output;
 
-fn utf8_of(rt: &impl CanWrite, ok: bool, s: &[u8]) -> bool {
+fn utf8_of(out: &mut Output<'_, impl CanWrite>, s: &[u8]) {
     if utf8::is_utf8(s) {
-        return put(rt, ok, b"well-formed");
+        out.put(b"well-formed");
+    } else {
+        out.put(b"ill-formed");
     }
-    put(rt, ok, b"ill-formed")
 }
 
 // The code points of a text as bytes, in hexadecimal, 64 at most.
-fn points_of(rt: &impl CanWrite, ok: bool, s: &[u8]) -> bool
+fn points_of(out: &mut Output<'_, impl CanWrite>, s: &[u8])
     requires { is_utf8 s.now ≡ true }
 {
     match utf8::latin1_len(s) {
-        utf8::Points::Of(n) => {
+        Some(n) => {
             if 64 < n {
-                return ok;
+                return;
             }
             let mut points = [0u8; 64];
             utf8::latin1(s, &mut points);
             let mut digits = [0u8; 128];
             hex_text::to_hex(&points[0..n], &mut digits);
             let end = 2 * n;
-            put(rt, ok, &digits[0..end])
+            out.put(&digits[0..end]);
         }
-        utf8::Points::Above => put(rt, ok, b"above ff"),
+        None => out.put(b"above ff"),
     }
 }
 
-fn latin1_of(rt: &impl CanWrite, ok: bool, s: &[u8]) -> bool {
+fn latin1_of(out: &mut Output<'_, impl CanWrite>, s: &[u8]) {
     if utf8::is_utf8(s) {
-        return points_of(rt, ok, s);
+        points_of(out, s);
+    } else {
+        out.put(b"ill-formed");
     }
-    put(rt, ok, b"ill-formed")
 }
 
-fn put16(rt: &impl CanWrite, ok: bool, bytes: &[u8; 16]) -> bool {
+fn put16(out: &mut Output<'_, impl CanWrite>, bytes: &[u8; 16]) {
     let mut digits = [0u8; 32];
     hex_text::to_hex(bytes, &mut digits);
-    put(rt, ok, &digits)
+    out.put(&digits);
 }
 
-fn uuid_of(rt: &impl CanWrite, ok: bool, s: &[u8]) -> bool {
-    let p = uuid_text::parse_str(s);
-    if p.ok {
-        let bytes = p.bytes;
-        return put16(rt, ok, &bytes);
+fn uuid_of(out: &mut Output<'_, impl CanWrite>, s: &[u8]) {
+    match uuid_text::parse_str(s) {
+        Some(bytes) => put16(out, &bytes),
+        None => out.put(b"refused"),
     }
-    put(rt, ok, b"refused")
 }
 
-fn float_text_of(rt: &impl CanWrite, ok: bool, s: &[u8]) -> bool {
+fn float_text_of(out: &mut Output<'_, impl CanWrite>, s: &[u8]) {
     match bits::parse_special_float(s) {
-        bits::SpecialFloat::Bits(b) => put_hex(rt, ok, b as u64, 8),
-        bits::SpecialFloat::NotOne => put(rt, ok, b"none"),
+        Some(b) => out.put_hex(b as u64, 8),
+        None => out.put(b"none"),
     }
 }
 
 // Two texts with a space between them: whether they are the same, and how many byte pairs were looked at.
-fn compare_of(rt: &impl CanWrite, ok: bool, given: &[u8]) -> Told {
+fn compare_of(out: &mut Output<'_, impl CanWrite>, given: &[u8]) -> bool {
     let at = space(given);
     if at == given.len() {
-        return unknown(ok);
+        return false;
     }
     let from = at + 1;
     let c = text::compare(&given[0..at], &given[from..]);
-    let ok = if c.same {
-        put(rt, ok, b"same ")
+    if c.same {
+        out.put(b"same ");
     } else {
-        put(rt, ok, b"differ ")
-    };
-    known(put_decimal(rt, ok, c.looked as u64))
+        out.put(b"differ ");
+    }
+    out.put_decimal(c.looked as u64);
+    true
 }
 
-fn of_bytes(rt: &impl CanWrite, ok: bool, name: &[u8], b: &[u8]) -> Told {
-    if text::same(name, b"utf8") {
-        return known(utf8_of(rt, ok, b));
+fn of_bytes(out: &mut Output<'_, impl CanWrite>, name: &[u8], b: &[u8]) -> bool {
+    match name {
+        b"utf8" => utf8_of(out, b),
+        b"latin1" => latin1_of(out, b),
+        _ => return false,
     }
-    if text::same(name, b"latin1") {
-        return known(latin1_of(rt, ok, b));
-    }
-    unknown(ok)
+    true
 }
 
 // Bytes that are given in hexadecimal, 64 at most.
-fn in_hex(rt: &impl CanWrite, ok: bool, name: &[u8], given: &[u8]) -> Told {
+fn in_hex(out: &mut Output<'_, impl CanWrite>, name: &[u8], given: &[u8]) -> bool {
     let mut b = [0u8; 64];
     match hex_text::from_hex(given, &mut b) {
-        hex_text::Frame::Of(n) => {
-            if 64 < n {
-                return unknown(ok);
-            }
-            of_bytes(rt, ok, name, &b[0..n])
-        }
-        hex_text::Frame::Broken => unknown(ok),
-        hex_text::Frame::TooLong => unknown(ok),
+        Ok(n) => n <= 64 && of_bytes(out, name, &b[0..n]),
+        Err(_) => false,
     }
 }
 
-pub(crate) fn answer(rt: &impl CanWrite, ok: bool, name: &[u8], given: &[u8]) -> Told {
-    if text::same(name, b"uuid") {
-        return known(uuid_of(rt, ok, given));
+pub(crate) fn answer(out: &mut Output<'_, impl CanWrite>, name: &[u8], given: &[u8]) -> bool {
+    match name {
+        b"uuid" => uuid_of(out, given),
+        b"float-text" => float_text_of(out, given),
+        b"compare" => return compare_of(out, given),
+        _ => return in_hex(out, name, given),
     }
-    if text::same(name, b"float-text") {
-        return known(float_text_of(rt, ok, given));
-    }
-    if text::same(name, b"compare") {
-        return compare_of(rt, ok, given);
-    }
-    in_hex(rt, ok, name, given)
+    true
 }

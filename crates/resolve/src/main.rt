@@ -9,146 +9,141 @@ ghost use Rattle.resolve.specs.Buffers.{Buffers};
 
 use lines::input::Reader;
 use std::rt::Env;
+use streams::output::Output;
 use streams::{CanRead, CanWrite};
 
-// The bytes that wait to be written, and whether every write so far went through.
-#[derive(Clone, Copy)]
-struct Output {
-    waits: usize,
-    ok: bool,
-}
-
-// The last line that was cut from the input, and the output.
-#[derive(Clone, Copy)]
-struct Turn {
-    reader: Reader,
-    output: Output,
-}
-
-// Writes what waits.
-fn flushed(rt: &impl CanWrite, o: Output, out: &[u8]) -> Output
-    requires { o.waits ≤ length out.now }
-    ensures { (result.waits ≡ 0) × (o.ok ≡ false → result.ok ≡ false) }
+// Writes the bytes that wait; none wait then.
+fn flushed(out: &mut Output<'_, impl CanWrite>, waits: usize, ready: &[u8]) -> usize
+    requires { waits ≤ length ready.now }
+    ensures none { result ≡ 0 }
+    ensures failed { out.old.ok ≡ false → out.new.ok ≡ false }
 {
-    let n = o.waits;
-    Output {
-        waits: 0,
-        ok: streams::output::put(rt, o.ok, &out[0..n]),
-    }
+    out.put(&ready[0..waits]);
+    0
 }
 
-// Writes what waits once the longest line might not fit behind it.
-fn roomy(rt: &impl CanWrite, o: Output, out: &[u8]) -> Output
-    requires { o.waits ≤ length out.now }
-    ensures { (result.waits ≤ 131071) × (o.ok ≡ false → result.ok ≡ false) }
+// Writes what waits once the longest line might not fit behind it; how many bytes wait then.
+fn roomy(out: &mut Output<'_, impl CanWrite>, waits: usize, ready: &[u8]) -> usize
+    requires { waits ≤ length ready.now }
+    ensures room { result ≤ 131071 }
+    ensures failed { out.old.ok ≡ false → out.new.ok ≡ false }
 {
-    if o.waits <= 131071 {
-        return o;
+    if waits <= 131071 {
+        return waits;
     }
-    flushed(rt, o, out)
+    flushed(out, waits, ready)
 }
 
-// The answer to a value's line, behind the bytes that wait.
+// The answer to a value's line, behind the bytes that wait; how many wait then.
 fn value_line(
-    rt: &impl CanWrite,
     line: &[u8],
     schema: &[u8],
     value: &mut [u8],
     res: &mut [u8],
     workspace: &mut [u8],
-    out: &mut [u8],
-    o: Output,
-) -> Output
-    requires { Buffers value.old res.old workspace.old out.old × (o.waits ≤ 131071) }
-    ensures { (result.waits ≤ 131071) × (o.ok ≡ false → result.ok ≡ false) }
+    ready: &mut [u8],
+    waits: usize,
+    out: &mut Output<'_, impl CanWrite>,
+) -> usize
+    requires { Buffers value.old res.old workspace.old ready.old × (waits ≤ 131071) }
+    ensures room { result ≤ 131071 }
+    ensures failed { out.old.ok ≡ false → out.new.ok ≡ false }
 {
     let n = lines::frame(line, value);
-    let waits = o.waits;
-    let more = answers::answer(schema, &value[0..n], res, workspace, &mut out[waits..]);
-    let longer = Output {
-        waits: waits + more,
-        ok: o.ok,
-    };
-    roomy(rt, longer, out)
+    let more = answers::answer(schema, &value[0..n], res, workspace, &mut ready[waits..]);
+    roomy(out, waits + more, ready)
+}
+
+// The last line that was cut from the input, and how many bytes wait to be written.
+#[derive(Clone, Copy)]
+struct Turn {
+    reader: Reader,
+    waits: usize,
 }
 
 // The next line. A read may have to wait, so what is ready is written before it.
-fn next(
-    rt: &(impl CanRead + CanWrite),
-    r: Reader,
-    o: Output,
+fn next<R: CanRead + CanWrite>(
+    rt: &R,
+    t: Turn,
     block: &mut [u8],
     line: &mut [u8],
-    out: &[u8],
+    ready: &[u8],
+    out: &mut Output<'_, R>,
 ) -> Turn
-    requires { Held r block.old line.old × (o.waits ≤ 131071) × (131071 ≤ length out.now) }
-    ensures { Held result.reader block.new line.new × (result.output.waits ≤ 131071) × (o.ok ≡ false → result.output.ok ≡ false) }
+    requires { Held t.reader block.old line.old × (t.waits ≤ 131071) × (131071 ≤ length ready.now) }
+    ensures held { Held result.reader block.new line.new × (result.waits ≤ 131071) }
+    ensures failed { out.old.ok ≡ false → out.new.ok ≡ false }
 {
-    let reader = lines::input::begin(r, block, line);
+    let reader = t.reader.begin(block, line);
     if reader.whole {
-        return Turn { reader, output: o };
+        return Turn { reader, ..t };
     }
-    let output = flushed(rt, o, out);
-    if !output.ok {
-        return Turn { reader, output };
+    let waits = flushed(out, t.waits, ready);
+    if !out.ok {
+        return Turn { reader, waits };
     }
-    let finished = streams::input::finish(rt, reader, block, line);
     Turn {
-        reader: finished,
-        output,
+        reader: streams::input::finish(rt, reader, block, line),
+        waits,
     }
 }
 
-// The values, up to the input's end or the first write that fails.
-// A proved loop has to end, and nothing says that the input does. So the turns are counted down from a number that no run uses up.
-fn values(
-    rt: &(impl CanRead + CanWrite),
-    start: Reader,
+// The values, up to the input's end or the first write that fails; how many bytes wait then.
+// A proved loop has to end, and nothing says that the input does. So there are as many turns as no run uses up.
+fn values<R: CanRead + CanWrite>(
+    rt: &R,
+    reader: Reader,
     block: &mut [u8],
     line: &mut [u8],
     schema: &[u8],
     value: &mut [u8],
     res: &mut [u8],
     workspace: &mut [u8],
-    out: &mut [u8],
-) -> Output
-    requires { Held start block.old line.old × Buffers value.old res.old workspace.old out.old }
-    ensures { result.waits ≤ length out.new }
+    ready: &mut [u8],
+    out: &mut Output<'_, R>,
+) -> usize
+    requires { Held reader block.old line.old × Buffers value.old res.old workspace.old ready.old }
+    ensures { result ≤ length ready.new }
 {
-    let mut r = start;
-    let mut o = Output { waits: 0, ok: true };
-    let mut turns = u64::MAX;
-    while turns > 0 {
-        let t = next(rt, r, o, block, line, out);
-        r = t.reader;
-        o = t.output;
-        if !r.whole || !o.ok {
-            return o;
+    let mut t = Turn { reader, waits: 0 };
+    for _ in 0..u64::MAX {
+        t = next(rt, t, block, line, ready, out);
+        if !t.reader.whole || !out.ok {
+            return t.waits;
         }
-        let n = r.filled;
-        o = value_line(rt, &line[0..n], schema, value, res, workspace, out, o);
-        turns -= 1;
+        let n = t.reader.filled;
+        t.waits = value_line(
+            &line[0..n],
+            schema,
+            value,
+            res,
+            workspace,
+            ready,
+            t.waits,
+            out,
+        );
     }
-    o
+    t.waits
 }
 
 // The schema's line, and then the values. A line too long for its buffer is longer than any frame, and counts as no frame.
-fn run(
-    rt: &(impl CanRead + CanWrite),
+fn run<R: CanRead + CanWrite>(
+    rt: &R,
     block: &mut [u8],
     line: &mut [u8],
     schema: &mut [u8],
     value: &mut [u8],
     res: &mut [u8],
     workspace: &mut [u8],
-    out: &mut [u8],
+    ready: &mut [u8],
 )
-    requires { Buffers value.old res.old workspace.old out.old }
+    requires { Buffers value.old res.old workspace.old ready.old }
 {
-    let r = streams::input::next(rt, lines::input::start(), block, line);
+    let mut out = Output::new(rt);
+    let r = streams::input::next(rt, Reader::start(), block, line);
     let filled = r.filled;
     let n = lines::frame(&line[0..filled], schema);
-    let o = values(
+    let waits = values(
         rt,
         r,
         block,
@@ -157,9 +152,10 @@ fn run(
         value,
         res,
         workspace,
-        out,
+        ready,
+        &mut out,
     );
-    flushed(rt, o, out);
+    flushed(&mut out, waits, ready);
 }
 
 // How the program is used.
@@ -187,7 +183,7 @@ fn main(rt: HostRuntime) {
     let mut value = [0u8; 65536];
     let mut result = [0u8; 65535];
     let mut workspace = [0u8; 65536];
-    let mut out = [0u8; 262144];
+    let mut ready = [0u8; 262144];
     run(
         &rt,
         &mut block,
@@ -196,6 +192,6 @@ fn main(rt: HostRuntime) {
         &mut value,
         &mut result,
         &mut workspace,
-        &mut out,
+        &mut ready,
     );
 }

@@ -8,16 +8,15 @@ use lib.IntN.{ℤ}
 use lib.Dec.{eqb, leb, ltb}
 use lib.Ieee.{binary32, binary64, of_bits, nan_bits}
 use borrow.Author.Tests.{lt-ltb, le-ltb, eqb-true, eqb-false, leb-true, ltb-true, ltb-false}
+use Rattle.std.specs.Prelude.{Some, None, Ok, Err}
 use Rattle.base.specs.Base.{when◌then◌else◌}
 use Rattle.rounding.specs.Rounding.{of_twos, to_twos}
-use Rattle.scalar.specs.Conversion.{long_of_int, in_int, int_of_long}
+use Rattle.scalar.specs.Conversion.{in_int, int_of_long}
 use Rattle.scalar.specs.Scalars.{float_of, double_of, time_of, of_content, is_scalar, is_short, width_of, kind_of, content_of, int_of, narrowed, int_cast, long_cast, keep, time_cast}
 use Rattle.scalar.specs.declared.Scalar.{Scalar}
 use Rattle.scalar.specs.declared.Scalar.TheVariants.{Int, Long, Float, FloatNan, Double, DoubleNan, Date, TimeMillis, TimeMicros, TimestampMillis, TimestampMicros, TimestampNanos, LocalTimestampMillis, LocalTimestampMicros, LocalTimestampNanos}
-use Rattle.scalar.specs.declared.Cast.TheVariants.{To, Unsuited, OutOfRange}
-use Rattle.scalar.specs.declared.Narrowed.TheVariants.{To as ToInt, OutOfRange as NoInt}
-use Rattle.scalar.proofs.Contents.{of-kind-2, of-kind-3, of-kind-4, of-kind-5, of-short-time, of-long-time, float-content, double-content, int-long}
-use Rattle.scalar.proofs.Bounds.{int_of_long-<}
+use Rattle.scalar.specs.declared.CastError.TheVariants.{Unsuited, OutOfRange}
+use Rattle.scalar.proofs.Contents.{of-kind-2, of-kind-3, of-kind-4, of-kind-5, of-short-time, of-long-time, float-content, double-content}
 use Rattle.scalar.proofs.Times.{twos_back, time-content}
 
 -- ---- the kinds of numbers and times
@@ -152,18 +151,18 @@ content-back k b (wide l m) h =
 
 -- ---- a Long as an Int
 
-pub long-as-int : (b : ℕ) → b < 2 ^ 64 → int_cast (Long (of_twos 64 b)) ≡ (when in_int b then To (Int (of_twos 32 (int_of_long b))) else OutOfRange)
+pub long-as-int : (b : ℕ) → b < 2 ^ 64 → int_cast (Long (of_twos 64 b)) ≡ (when in_int b then Ok (Int (of_twos 32 (int_of_long b))) else Err OutOfRange)
 unfolding narrowed
 long-as-int b h = ap (λ (x : ℕ). int_of (narrowed x)) (twos_back 64 b h) ∙ go (in_int b)
   where
-    go : (t : Bool) → int_of (when t then ToInt (int_of_long b) else NoInt) ≡ (when t then To (Int (of_twos 32 (int_of_long b))) else OutOfRange)
+    go : (t : Bool) → int_of (when t then Some (int_of_long b) else None) ≡ (when t then Ok (Int (of_twos 32 (int_of_long b))) else Err OutOfRange)
     go true = refl
     go false = refl
 
 -- ---- what is neither an Int nor a Long
 
 abbrev Others : Scalar → Type 0
-Others s = (int_cast s ≡ Unsuited) × (long_cast s ≡ Unsuited) × ((k : ℕ) → time_cast k s ≡ keep k s)
+Others s = (int_cast s ≡ Err Unsuited) × (long_cast s ≡ Err Unsuited) × ((k : ℕ) → time_cast k s ≡ keep k s)
 
 pub others : (s : Scalar) → (kind_of s ≡ 0x02 → ⊥) → (kind_of s ≡ 0x03 → ⊥) → Others s
 others (Int z) f g = absurd (f refl)

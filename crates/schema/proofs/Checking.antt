@@ -1,9 +1,9 @@
 -- What the answers for a union and a record say, and the turns of the loops over variants and names.
 use Prim.Native.Nat.{ℕ, ◌+◌, ◌-◌, ◌≤◌, ◌<◌}
-use mathlib.Core.Path.{◌≡◌, sym, ap, ◌∙◌}
+use mathlib.Core.Path.{◌≡◌, sym, ap, ◌∙◌, subst}
 use mathlib.Core.List.{List}
 use mathlib.Core.Option.{none, some}
-use mathlib.Core.Bool.{Bool, true, false, ◌&&◌, ◌||◌, not, and_assoc}
+use mathlib.Core.Bool.{Bool, true, false, ◌&&◌, ◌||◌, not, and_assoc, and_comm}
 use native.Mathlib.Omega.{arith}
 use native.Mathlib.Nat.{add-zero}
 use lib.Dec.{ltb, eqb}
@@ -19,9 +19,9 @@ use Rattle.frame.specs.Readers.{read_list}
 use Rattle.frame.specs.SchemaFrame.{Form, Under, Field, fields_of, variants_of, read_field, read_tables, read_formed, read_schema_under}
 use Rattle.frame.specs.Sound.{schema_sound, variants_sound, kinds_sound, positions_sound, tables_sound, count_variants, has_field}
 use Rattle.frame.specs.Checks.{Checks, Spans}
-use Rattle.frame.specs.declared.Checked.TheVariants.{Of, Broken}
+use Rattle.std.specs.Prelude.{None}
 use Rattle.frame.proofs.Reading.{read-what, bind-some, reads-some, reads_first}
-use Rattle.frame.proofs.Measuring.{Held, held, checks-some, checks-broken, checks-reads}
+use Rattle.frame.proofs.Measuring.{told, Held, held, checks-some, checks-broken, checks-reads}
 use Rattle.frame.proofs.Counting.{many-length, list-many, reads-list, Going, going_step, Left, left-first, left_step}
 use Rattle.frame.proofs.SchemaNodes.{schema-there-under, schema-kind-under, count-variants}
 use Rattle.schema.specs.Parts.{each_sound, names_differ, no_unions}
@@ -30,19 +30,20 @@ use Rattle.schema.proofs.Seeking.{field-name, fields-sound}
 
 -- ---- variants
 
-pub variant-there : (u : Under) (d : ℕ) (s : List ℕ) (at m : ℕ) (fine : Bool) → Checks schema_sound (read_schema_under u d (drop at s)) (drop at s) (Of m fine) → at < length s
+pub variant-there : (u : Under) (d : ℕ) (s : List ℕ) (at m : ℕ) (fine : Bool) → Checks schema_sound (read_schema_under u d (drop at s)) (drop at s) (told m fine) → at < length s
 variant-there u d s at m fine w =
     let q = held schema_sound _ _ m fine w in
     let t : 0 < length (drop at s) = (schema-there-under u d (drop at s) (reads-some q.what _ q.read)).1 in
     omega (arith, t, length-drop at s)
 
-pub variants-step : (u : Under) (d : ℕ) (s : List ℕ) (at left : ℕ) (ok : Bool) → Going (read_list (read_schema_under u d) s) (read_schema_under u d) no_unions s at left ok no_unions → 0 < left
-    → (m : ℕ) (fine one ok' : Bool) → Checks schema_sound (read_schema_under u d (drop at s)) (drop at s) (Of m fine) → one ≡ not (eqb (get_or s at 0) 10) && fine → ok' ≡ ok && one
-    → Going (read_list (read_schema_under u d) s) (read_schema_under u d) no_unions s (at + m) (left - 1) ok' no_unions
+pub variants-step : (u : Under) (d : ℕ) (s : List ℕ) (at n i : ℕ) (ok : Bool) → Going (read_list (read_schema_under u d) s) (read_schema_under u d) no_unions s at (n - i) ok no_unions → i < n
+    → (m : ℕ) (fine ok' : Bool) → Checks schema_sound (read_schema_under u d (drop at s)) (drop at s) (told m fine) → ok' ≡ ok && fine && not (eqb (get_or s at 0) 10)
+    → Going (read_list (read_schema_under u d) s) (read_schema_under u d) no_unions s (at + m) (n - (i + 1)) ok' no_unions
 unfolding variants_sound variants_of
-variants-step u d s at left ok w h m fine one ok' v e1 e2 =
-    going_step _ (read_schema_under u d) no_unions s at left ok no_unions w h m q.inside q.what q.read ok' no_unions
-    (λ l. ap (λ y. ok && (y && no_unions l)) (sym each) ∙ sym (and_assoc ok one (no_unions l)) ∙ ap (λ y. y && no_unions l) (sym e2))
+variants-step u d s at n i ok w h m fine ok' v e =
+    subst (λ left. Going (read_list (read_schema_under u d) s) (read_schema_under u d) no_unions s (at + m) left ok' no_unions) (omega arith)
+    (going_step _ (read_schema_under u d) no_unions s at (n - i) ok no_unions w (omega arith) m q.inside q.what q.read ok' no_unions
+    (λ l. sym (and_assoc ok (not (eqb (schema_kind q.what) 10) && schema_sound q.what) (no_unions l)) ∙ ap (λ y. y && no_unions l) (sym (e ∙ turned))))
   where
     q : Held schema_sound (read_schema_under u d (drop at s)) (drop at s) m fine
     q = held schema_sound _ _ m fine v
@@ -50,26 +51,26 @@ variants-step u d s at left ok w h m fine one ok' v e1 e2 =
     kind : schema_kind q.what ≡ get_or s at 0
     kind = schema-kind-under u d (drop at s) q.what _ q.read ∙ get_or-drop at s 0 0 ∙ ap (λ i. get_or s i 0) (add-zero at)
 
-    each : one ≡ not (eqb (schema_kind q.what) 10) && schema_sound q.what
-    each = e1 ∙ ap (λ y. not (eqb y 10) && fine) (sym kind) ∙ ap (λ y. not (eqb (schema_kind q.what) 10) && y) q.tells
+    turned : ok && fine && not (eqb (get_or s at 0) 10) ≡ ok && (not (eqb (schema_kind q.what) 10) && schema_sound q.what)
+    turned = and_assoc ok fine _ ∙ ap (λ y. ok && y) (and_comm fine _ ∙ ap (λ y. not (eqb y 10) && fine) (sym kind) ∙ ap (λ y. not (eqb (schema_kind q.what) 10) && y) q.tells)
 
 -- ---- unions
 
-pub count-there : (node : List ℕ → Read Schema) (s : List ℕ) (a : ℕ) (ok : Bool) → Checks no_unions (read_list node s) s (Of a ok) → 2 ≤ length s
+pub count-there : (node : List ℕ → Read Schema) (s : List ℕ) (a : ℕ) (ok : Bool) → Checks no_unions (read_list node s) s (told a ok) → 2 ≤ length s
 count-there node s a ok v = reads-list node s (checks-reads no_unions _ s a ok v)
 
-module _ (form : Form) (node : List ℕ → Read Schema) (s : List ℕ) (a : ℕ) (ok : Bool) (v : Checks no_unions (read_list node s) s (Of a ok)) (count : ℕ) (ec : count ≡ number_at s 0 2) where
+module _ (form : Form) (node : List ℕ → Read Schema) (s : List ℕ) (a : ℕ) (ok : Bool) (v : Checks no_unions (read_list node s) s (told a ok)) (count : ℕ) (ec : count ≡ number_at s 0 2) where
   several : Held no_unions (read_list node s) s a ok
   several = held no_unions (read_list node s) s a ok v
 
   counted : length several.what ≡ count
   counted = many-length node (number_at s 0 2) (drop 2 s) several.what _ (sym (list-many node s (count-there node s a ok v)) ∙ several.read) ∙ sym ec
 
-  pub union-broken₂ : ((vs : List Schema) → length vs ≡ count → Checks (tables_sound count) (read_tables form vs (drop a s)) (drop a s) Broken) → read_formed form node 10 s ≡ none
+  pub union-broken₂ : ((vs : List Schema) → length vs ≡ count → Checks (tables_sound count) (read_tables form vs (drop a s)) (drop a s) None) → read_formed form node 10 s ≡ none
   union-broken₂ w = union-none₂ form node s a several.what several.read (checks-broken _ _ _ (w several.what counted))
 
-  pub union-checks : (b : ℕ) (fine : Bool) → ((vs : List Schema) → length vs ≡ count → Checks (tables_sound count) (read_tables form vs (drop a s)) (drop a s) (Of b fine))
-      → (x z : Bool) → x ≡ ltb 0 count && ok → z ≡ x && fine → Checks schema_sound (read_formed form node 10 s) s (Of (a + b) z)
+  pub union-checks : (b : ℕ) (fine : Bool) → ((vs : List Schema) → length vs ≡ count → Checks (tables_sound count) (read_tables form vs (drop a s)) (drop a s) (told b fine))
+      → (x z : Bool) → x ≡ ltb 0 count && ok → z ≡ x && fine → Checks schema_sound (read_formed form node 10 s) s (told (a + b) z)
   unfolding schema_sound
   union-checks b fine w x z ex ez =
       let vs = several.what in
@@ -82,13 +83,21 @@ module _ (form : Form) (node : List ℕ → Read Schema) (s : List ℕ) (a : ℕ
 
 -- ---- records
 
-pub record-checks : (form : Form) (node : List ℕ → Read Schema) (s : List ℕ) (m : ℕ) (ok : Bool) → Checks each_sound (read_list (read_field node) s) s (Of m ok) → (differ : Bool)
-    → ((fs : List Field) (u : List ℕ) → read_list (read_field node) s ≡ some (fs, u) → differ ≡ names_differ fs) → (b : Bool) → b ≡ ok && differ → Checks schema_sound (read_formed form node 11 s) s (Of m b)
+pub record-checks : (form : Form) (node : List ℕ → Read Schema) (s : List ℕ) (m : ℕ) (ok : Bool) → Checks each_sound (read_list (read_field node) s) s (told m ok) → (differ : Bool)
+    → ((fs : List Field) (u : List ℕ) → read_list (read_field node) s ≡ some (fs, u) → differ ≡ names_differ fs) → (b : Bool) → b ≡ ok && differ → Checks schema_sound (read_formed form node 11 s) s (told m b)
 unfolding schema_sound
 record-checks form node s m ok v differ h b e =
     let q = held each_sound (read_list (read_field node) s) s m ok v in
     checks-some schema_sound _ s m b q.inside (Schema.Record (fields_of q.what)) (record-content form node s ∙ bind-some _ _ q.what (drop m s) q.read)
     (e ∙ ap (λ k. k && differ) q.tells ∙ ap (λ k. each_sound q.what && k) (h q.what (drop m s) q.read) ∙ fields-sound q.what)
+
+-- where a field is unsound by itself, the names do not matter
+pub record-unsound : (form : Form) (node : List ℕ → Read Schema) (s : List ℕ) (m : ℕ) (ok : Bool) → Checks each_sound (read_list (read_field node) s) s (told m ok) → ok ≡ false → Checks schema_sound (read_formed form node 11 s) s (told m ok)
+unfolding schema_sound
+record-unsound form node s m ok v f =
+    let q = held each_sound (read_list (read_field node) s) s m ok v in
+    checks-some schema_sound _ s m ok q.inside (Schema.Record (fields_of q.what)) (record-content form node s ∙ bind-some _ _ q.what (drop m s) q.read)
+    (f ∙ ap (λ k. k && names_differ q.what) (sym f ∙ q.tells) ∙ fields-sound q.what)
 
 -- ---- names
 

@@ -7,7 +7,7 @@ use mathlib.Core.Bool.{Bool, true, false, ◌&&◌, ◌||◌, not, or-true, or_a
 use mathlib.Mathlib.Data.Bool.Basic.{or-eq-false-eq-eq-false-and-eq-false}
 use native.Mathlib.Omega.{arith}
 use lib.Dec.{T, eqb}
-use lib.ListN.{length, length-set, get_or, set, drop}
+use lib.ListN.{length, get_or, set, drop}
 use lib.Seq.{drop-drop, get_or-set_same, get_or-set_other}
 use borrow.Author.Tests.{eqb-true, eqb-false, eq-eqb, not-true}
 use Rattle.base.specs.Base.{when◌then◌else◌}
@@ -24,20 +24,8 @@ use Rattle.frame.proofs.Reading.{read-what, read-rest, bind-some, reads-some}
 use Rattle.frame.proofs.Measuring.{spans-rest}
 use Rattle.frame.proofs.Counting.{First, many-first, reads-list, Left, left-start, left-first, left_step, left_end}
 use Rattle.schema.specs.Parts.{names_differ}
-use Rattle.schema.specs.Slot.{slots, low_of, high_of, mark_of, marked, may_be, name_mark}
+use Rattle.schema.specs.Slot.{mark_of, marked, may_be, name_mark}
 use Rattle.schema.proofs.Checking.{seeks, name-is}
-
--- ---- slots
-
-pub low-inside : (few : Bool) (h : ℕ) → low_of few h < slots few
-unfolding low_of slots
-low-inside true h = omega arith
-low-inside false h = omega arith
-
-pub high-inside : (few : Bool) (h : ℕ) → high_of few h < slots few
-unfolding high_of slots
-high-inside true h = omega arith
-high-inside false h = omega arith
 
 -- ---- the slots that names took
 
@@ -107,11 +95,6 @@ module _ (key : Text → ℕ) (t : List ℕ) where
           ap (λ i. may_be (get_or (set t k (marked (get_or t k 0) v)) i 0) w) q ∙ ap (λ b. may_be b w) (get_or-set_same t k (marked (get_or t k 0) v) 0 h) ∙ mark-stays (get_or t k 0) v w n (ap (λ i. may_be (get_or t i 0) w) (sym q) ∙ e)
       go false g = ap (λ b. may_be b w) (get_or-set_other t k j (marked (get_or t k 0) v) 0 (eqb-false j k g)) ∙ e
 
-  pub taken-still : (k v : ℕ) → k < length t → (fs : List Field) → Taken key t fs → Taken key (set t k (marked (get_or t k 0) v)) fs
-  unfolding Taken
-  taken-still k v h [] w = w
-  taken-still k v h (g ∷ fs) w = (still k (key g.0) v h (name_mark g.0) (mark-some g.0) w.0, taken-still k v h fs w.1)
-
   -- one more takes its slot
   pub taken_more : (k v : ℕ) → k < length t → (fs : List Field) (f : Field) → k ≡ key f.0 → v ≡ name_mark f.0 → Taken key t fs → Taken key (set t k (marked (get_or t k 0) v)) (fs ++ (f ∷ []))
   unfolding Taken
@@ -167,49 +150,52 @@ many_more p (suc n) s xs t a u e g =
 
 -- ---- the loop over the fields: what was read, and what is left
 
-pub record Looking (node : List ℕ → Read Schema) (low high : Text → ℕ) (s : List ℕ) (table : List ℕ) (left at done : ℕ) : Type 0 where
+pub record Looking (node : List ℕ → Read Schema) (low high : Text → ℕ) (s : List ℕ) (lows highs : List ℕ) (n at done : ℕ) : Type 0 where
   pub before : List Field
-  pub rest : Left (read_list (read_field node) s) (read_field node) (λ l. l) (λ l. before ++ l) s at left
+  pub rest : Left (read_list (read_field node) s) (read_field node) (λ l. l) (λ l. before ++ l) s at (n - done)
   pub front : read_many (read_field node) done (drop 2 s) ≡ some (before, drop at s)
   pub differ : names_differ before ≡ true
-  pub taken-low : Taken low table before
-  pub taken-high : Taken high table before
+  pub taken-low : Taken low lows before
+  pub taken-high : Taken high highs before
 
 module _ (node : List ℕ → Read Schema) (low high : Text → ℕ) (s : List ℕ) where
-  pub looking-start : (table : List ℕ) (n : ℕ) → Reads (read_list (read_field node) s) → read_list (read_field node) s ≡ read_many (read_field node) n (drop 2 s) → Looking node low high s table n 2 0
+  pub looking-start : (lows highs : List ℕ) (n : ℕ) → Reads (read_list (read_field node) s) → read_list (read_field node) s ≡ read_many (read_field node) n (drop 2 s) → Looking node low high s lows highs n 2 0
   unfolding read_many names_differ Taken
-  looking-start table n r e = record {
+  looking-start lows highs n r e = record {
     before = [];
-    rest = left-start _ (read_field node) (λ l. l) (λ l. [] ++ l) s 2 n (reads-list _ s r) e r (λ l. refl);
+    rest = left-start _ (read_field node) (λ l. l) (λ l. [] ++ l) s 2 (n - 0) (reads-list _ s r) (let z : n - 0 ≡ n = omega arith in rw z e) r (λ l. refl);
     front = refl;
     differ = refl;
     taken-low = tt;
     taken-high = tt;
   }
 
-  module _ (table : List ℕ) (left at done : ℕ) (w : Looking node low high s table left at done) where
+  module _ (lows highs : List ℕ) (n at done : ℕ) (w : Looking node low high s lows highs n at done) where
     pub looking-reads : Reads (read_many (read_field node) done (drop 2 s))
     looking-reads = reads-some w.before (drop at s) w.front
 
-    free : (key : Text → ℕ) → Taken key table w.before → (n : Text) (k v : ℕ) → k ≡ key n → v ≡ name_mark n → may_be (get_or table k 0) v ≡ false → (fs : List Field) (u : List ℕ) → read_many (read_field node) done (drop 2 s) ≡ some (fs, u) → seeks n fs ≡ false
-    free key t n k v q m e fs u g =
-        ap (seeks n) (sym (read-what (sym w.front ∙ g))) ∙ free_new key table n w.before t (ap (λ i. may_be (get_or table i 0) (name_mark n)) (sym q) ∙ ap (may_be (get_or table k 0)) (sym m) ∙ e)
+    free : (key : Text → ℕ) (table : List ℕ) → Taken key table w.before → (name : Text) (k v : ℕ) → k ≡ key name → v ≡ name_mark name → may_be (get_or table k 0) v ≡ false → (fs : List Field) (u : List ℕ) → read_many (read_field node) done (drop 2 s) ≡ some (fs, u) → seeks name fs ≡ false
+    free key table t name k v q m e fs u g =
+        ap (seeks name) (sym (read-what (sym w.front ∙ g))) ∙ free_new key table name w.before t (ap (λ i. may_be (get_or table i 0) (name_mark name)) (sym q) ∙ ap (may_be (get_or table k 0)) (sym m) ∙ e)
 
     -- a mark is missing
-    pub looking-low : (n : Text) (k v : ℕ) → k ≡ low n → v ≡ name_mark n → may_be (get_or table k 0) v ≡ false → (fs : List Field) (u : List ℕ) → read_many (read_field node) done (drop 2 s) ≡ some (fs, u) → seeks n fs ≡ false
-    looking-low = free low w.taken-low
+    pub looking-low : (name : Text) (k v : ℕ) → k ≡ low name → v ≡ name_mark name → may_be (get_or lows k 0) v ≡ false → (fs : List Field) (u : List ℕ) → read_many (read_field node) done (drop 2 s) ≡ some (fs, u) → seeks name fs ≡ false
+    looking-low = free low lows w.taken-low
 
-    pub looking-high : (n : Text) (k v : ℕ) → k ≡ high n → v ≡ name_mark n → may_be (get_or table k 0) v ≡ false → (fs : List Field) (u : List ℕ) → read_many (read_field node) done (drop 2 s) ≡ some (fs, u) → seeks n fs ≡ false
-    looking-high = free high w.taken-high
+    pub looking-high : (name : Text) (k v : ℕ) → k ≡ high name → v ≡ name_mark name → may_be (get_or highs k 0) v ≡ false → (fs : List Field) (u : List ℕ) → read_many (read_field node) done (drop 2 s) ≡ some (fs, u) → seeks name fs ≡ false
+    looking-high = free high highs w.taken-high
 
-    pub looking-end : left ≤ 0 → (fs : List Field) (u : List ℕ) → read_list (read_field node) s ≡ some (fs, u) → true ≡ names_differ fs
+    pub looking-end : n ≤ done → (fs : List Field) (u : List ℕ) → read_list (read_field node) s ≡ some (fs, u) → true ≡ names_differ fs
     looking-end h fs u e =
-        sym (ap names_differ (left_end _ (read_field node) (λ l. l) (λ l. w.before ++ l) s at left w.rest h fs u e ∙ append-nil w.before) ∙ w.differ)
+        sym (ap names_differ (left_end _ (read_field node) (λ l. l) (λ l. w.before ++ l) s at (n - done) w.rest (omega arith) fs u e ∙ append-nil w.before) ∙ w.differ)
 
-    module _ (h : 0 < left) (name : Text) (v : List ℕ) (g : read_counted (drop at s) ≡ some (name, v)) (has : Bool)
+    module _ (h : done < n) (name : Text) (v : List ℕ) (g : read_counted (drop at s) ≡ some (name, v)) (has : Bool)
         (tells : (fs : List Field) (u : List ℕ) → read_many (read_field node) done (drop 2 s) ≡ some (fs, u) → has ≡ seeks name fs) where
-      abbrev next : First (read_field node) left (drop at s) w.rest.rest w.rest.after
-      next = left-first _ (read_field node) (λ l. l) (λ l. w.before ++ l) s at left w.rest h
+      abbrev more : 0 < n - done
+      more = omega arith
+
+      abbrev next : First (read_field node) (n - done) (drop at s) w.rest.rest w.rest.after
+      next = left-first _ (read_field node) (λ l. l) (λ l. w.before ++ l) s at (n - done) w.rest more
 
       named : name ≡ next.item.0
       named = name-is node (drop at s) next.item next.behind next.first name v g
@@ -221,27 +207,31 @@ module _ (node : List ℕ → Read Schema) (low high : Text → ℕ) (s : List �
       looking-hit t fs u e =
           sym (ap names_differ (w.rest.tells fs u e ∙ ap (λ l. w.before ++ l) next.cons) ∙ differ-not w.before next.item next.others (sym seen ∙ t))
 
-      step : has ≡ false → (j k x : ℕ) → j ≡ low name → k ≡ high name → x ≡ name_mark name → j < length table → k < length table → (m : ℕ) → Spans (read_field node (drop at s)) (drop at s) m → Looking node low high s (set (set table j (marked (get_or table j 0) x)) k (marked (get_or (set table j (marked (get_or table j 0) x)) k 0) x)) (left - 1) (at + m) (done + 1)
+      step : has ≡ false → (j k x : ℕ) → j ≡ low name → k ≡ high name → x ≡ name_mark name → j < length lows → k < length highs → (m : ℕ) → Spans (read_field node (drop at s)) (drop at s) m
+          → Looking node low high s (set lows j (marked (get_or lows j 0) x)) (set highs k (marked (get_or highs k 0) x)) n (at + m) (done + 1)
       step t j k x p q y i l m z = record {
         before = w.before ++ (next.item ∷ []);
-        rest = left_step _ (read_field node) (λ l. l) (λ l. w.before ++ l) s at left w.rest (λ l. w.before ++ (next.item ∷ []) ++ l) h m z (sym (append_assoc w.before (next.item ∷ []) next.others));
+        rest = rest;
         front = ap (λ k. read_many (read_field node) k (drop 2 s)) one_more ∙ many_more (read_field node) done (drop 2 s) w.before (drop at s) next.item (drop (at + m) s) w.front (next.first ∙ ap (λ r. some (next.item, r)) behind);
         differ = differ-more w.before next.item w.differ (sym seen ∙ t);
-        taken-low = taken-still low (set table j (marked (get_or table j 0) x)) k x inside (w.before ++ (next.item ∷ [])) (taken_more low table j x i w.before next.item (p ∙ ap low named) (y ∙ ap name_mark named) w.taken-low);
-        taken-high = taken_more high (set table j (marked (get_or table j 0) x)) k x inside w.before next.item (q ∙ ap high named) (y ∙ ap name_mark named) (taken-still high table j x i w.before w.taken-high);
+        taken-low = taken_more low lows j x i w.before next.item (p ∙ ap low named) (y ∙ ap name_mark named) w.taken-low;
+        taken-high = taken_more high highs k x l w.before next.item (q ∙ ap high named) (y ∙ ap name_mark named) w.taken-high;
       }
         where
-          inside : k < length (set table j (marked (get_or table j 0) x))
-          inside = simp length-set l
-
           one_more : done + 1 ≡ suc done
           one_more = omega arith
 
           behind : next.behind ≡ drop (at + m) s
           behind = spans-rest _ (drop at s) m z next.item next.behind next.first ∙ drop-drop m at s
 
-      pub looking-step : has ≡ false → (j k x a b : ℕ) → j ≡ low name → k ≡ high name → x ≡ name_mark name → j < length table → k < length table → a ≡ marked (get_or table j 0) x → b ≡ marked (get_or (set table j a) k 0) x
-          → (m : ℕ) → Spans (read_field node (drop at s)) (drop at s) m → Looking node low high s (set (set table j a) k b) (left - 1) (at + m) (done + 1)
+          rest : Left (read_list (read_field node) s) (read_field node) (λ l. l) (λ l. (w.before ++ (next.item ∷ [])) ++ l) s (at + m) (n - (done + 1))
+          rest =
+              let q : n - done - 1 ≡ n - (done + 1) = omega arith in
+              subst (Left (read_list (read_field node) s) (read_field node) (λ l. l) (λ l. (w.before ++ (next.item ∷ [])) ++ l) s (at + m)) q
+              (left_step _ (read_field node) (λ l. l) (λ l. w.before ++ l) s at (n - done) w.rest (λ l. (w.before ++ (next.item ∷ [])) ++ l) more m z (sym (append_assoc w.before (next.item ∷ []) next.others)))
+
+      pub looking-step : has ≡ false → (j k x a b : ℕ) → j ≡ low name → k ≡ high name → x ≡ name_mark name → j < length lows → k < length highs → a ≡ marked (get_or lows j 0) x → b ≡ marked (get_or highs k 0) x
+          → (m : ℕ) → Spans (read_field node (drop at s)) (drop at s) m → Looking node low high s (set lows j a) (set highs k b) n (at + m) (done + 1)
       looking-step t j k x a b p q y i l ea eb m z =
-          subst (λ c. Looking node low high s (set (set table j a) k c) (left - 1) (at + m) (done + 1)) (sym eb)
-          (subst (λ c. Looking node low high s (set (set table j c) k (marked (get_or (set table j c) k 0) x)) (left - 1) (at + m) (done + 1)) (sym ea) (step t j k x p q y i l m z))
+          subst (λ c. Looking node low high s (set lows j a) (set highs k c) n (at + m) (done + 1)) (sym eb)
+          (subst (λ c. Looking node low high s (set lows j c) (set highs k (marked (get_or highs k 0) x)) n (at + m) (done + 1)) (sym ea) (step t j k x p q y i l m z))

@@ -15,12 +15,11 @@ use Rattle.frame.specs.ValueFrame.{read_value}
 use Rattle.frame.specs.SchemaFrame.{Form, Under, Tables, bare, fields_of, variants_of, read_field, read_tables, read_symbols, read_formed, read_schema_under}
 use Rattle.frame.specs.Sound.{schema_sound}
 use Rattle.frame.specs.Checks.{Checks}
-use Rattle.frame.specs.declared.Checked.TheVariants.{Of, Broken}
 use Rattle.text.specs.Measured.{Measured}
-use Rattle.text.specs.declared.Len.TheVariants as len
+use Rattle.std.specs.Prelude.{Some, None}
 use Rattle.frame.specs.Sound.{default_allowed}
 use Rattle.frame.proofs.Reading.{bind-some, bind-none, map_read}
-use Rattle.frame.proofs.Measuring.{Long, long, held, checks-some, checks-broken}
+use Rattle.frame.proofs.Measuring.{told, Long, long, held, checks-some, checks-broken}
 use Rattle.frame.proofs.SchemaNodes.{schema-node}
 use Rattle.schema.specs.Parts.{field_sound}
 
@@ -30,14 +29,14 @@ pub bare-content : (form : Form) (node : List ℕ → Read Schema) (k : ℕ) (s 
 unfolding read_formed
 bare-content form node k s e = rw e refl
 
-pub bare-checks : (u : Under) (d : ℕ) (s : List ℕ) → (d ≡ 0 → ⊥) → (length s ≡ 0 → ⊥) → bare (get_or s 0 0) ≡ true → Checks schema_sound (read_schema_under u d s) s (Of 1 true)
+pub bare-checks : (u : Under) (d : ℕ) (s : List ℕ) → (d ≡ 0 → ⊥) → (length s ≡ 0 → ⊥) → bare (get_or s 0 0) ≡ true → Checks schema_sound (read_schema_under u d s) s (told 1 true)
 unfolding Checks schema_sound
 bare-checks u d s f g e = (omega arith, (Schema.Plain (get_or s 0 0), (schema-node u d s f g ∙ bare-content _ _ _ _ e, refl)))
 
 -- ---- the answer for a node from that for its content
 
-pub node-checks : (u : Under) (d : ℕ) (s : List ℕ) (m : ℕ) (b : Bool) → (d ≡ 0 → ⊥) → (length s ≡ 0 → ⊥) → Checks schema_sound (read_formed u.form (read_schema_under u (d - 1)) (get_or s 0 0) (drop 1 s)) (drop 1 s) (Of m b)
-    → Checks schema_sound (read_schema_under u d s) s (Of (1 + m) b)
+pub node-checks : (u : Under) (d : ℕ) (s : List ℕ) (m : ℕ) (b : Bool) → (d ≡ 0 → ⊥) → (length s ≡ 0 → ⊥) → Checks schema_sound (read_formed u.form (read_schema_under u (d - 1)) (get_or s 0 0) (drop 1 s)) (drop 1 s) (told m b)
+    → Checks schema_sound (read_schema_under u d s) s (told (1 + m) b)
 unfolding Checks
 node-checks u d s m b f g w = (omega (arith, w.0, length-drop 1 s), (w.1.0, (schema-node u d s f g ∙ w.1.1.0 ∙ ap (λ t. some (w.1.0, t)) (drop-drop m 1 s), w.1.1.1)))
 
@@ -106,20 +105,20 @@ module _ (node : List ℕ → Read Schema) (s : List ℕ) where
 -- ---- fields by the answers for their parts
 
 module _ (node : List ℕ → Read Schema) (s : List ℕ) (a : ℕ) where
-  module _ (v : Measured (read_text s) s (len.Of a)) where
-    pub field-broken₂ : Checks default_allowed (read_option (read_value 16) (drop a s)) (drop a s) Broken → read_field node s ≡ none
+  module _ (v : Measured (read_text s) s (Some a)) where
+    pub field-broken₂ : Checks default_allowed (read_option (read_value 16) (drop a s)) (drop a s) None → read_field node s ≡ none
     field-broken₂ w =
         let q : Long (read_text s) s a = long _ _ a v in
         field-none₂ node s a q.what q.read (checks-broken _ _ _ w)
 
-    module _ (b : ℕ) (ok : Bool) (w : Checks default_allowed (read_option (read_value 16) (drop a s)) (drop a s) (Of b ok)) where
+    module _ (b : ℕ) (ok : Bool) (w : Checks default_allowed (read_option (read_value 16) (drop a s)) (drop a s) (told b ok)) where
       pub field-broken₃ : node (drop (a + b) s) ≡ none → read_field node s ≡ none
       field-broken₃ u =
           let q : Long (read_text s) s a = long _ _ a v in
           let r = held _ _ _ b ok w in
           field-none₃ node s a q.what q.read b r.what r.read u
 
-      pub field-checks : (m : ℕ) (fine both : Bool) → Checks schema_sound (node (drop (a + b) s)) (drop (a + b) s) (Of m fine) → both ≡ ok && fine → Checks field_sound (read_field node s) s (Of (a + b + m) both)
+      pub field-checks : (m : ℕ) (fine both : Bool) → Checks schema_sound (node (drop (a + b) s)) (drop (a + b) s) (told m fine) → both ≡ ok && fine → Checks field_sound (read_field node s) s (told (a + b + m) both)
       field-checks m fine both u e =
           let q : Long (read_text s) s a = long _ _ a v in
           let r = held _ _ _ b ok w in

@@ -4,11 +4,12 @@ use Prim.Native.Nat.{ℕ, zero, suc, ◌+◌, ◌-◌, ◌*◌, ◌≤◌, ◌<�
 use mathlib.Core.Path.{◌≡◌, refl, sym, ap, ◌∙◌, subst}
 use mathlib.Core.List.{List, [], ◌∷◌}
 use mathlib.Core.Option.{none, some}
-use mathlib.Core.Bool.{true}
+use mathlib.Core.Bool.{Bool, true, false}
 use native.Mathlib.Omega.{arith}
+use lib.Dec.{eqb}
 use lib.ListN.{length, drop, get_or}
 use lib.Seq.{drop-drop}
-use borrow.Author.Tests.{ne_eqb}
+use borrow.Author.Tests.{eqb-true, eqb-false, ne_eqb}
 use Rattle.number.specs.Number.{number_at}
 use Rattle.text.specs.Read.{Read, ◌>>=◌, read_number, read_counted, read_text}
 use Rattle.text.specs.Measured.{Reads}
@@ -162,6 +163,22 @@ module _ (form : Form) (node : List ℕ → Read Schema) (s : List ℕ) where
 
     pub map-spans : (n : ℕ) → Spans (node s) s n → Spans (read_formed form node 9 s) s n
     map-spans n w = spans-eq _ _ s n (map-content form node s) (spans-map Schema.Map (node s) s n w)
+
+  -- an array or a map
+  module _ (k : ℕ) (l : 8 ≤ k) (h : k ≤ 9) (r : Reads (read_formed form node k s)) where
+    pub child-known : Reads (node s)
+    child-known = go (eqb k 8) refl
+      where
+        go : (b : Bool) → eqb k 8 ≡ b → Reads (node s)
+        go true e = array_known (rw (eqb-true _ _ e) at r)
+        go false e = let f = eqb-false _ _ e in let q : k ≡ 9 = omega arith in map-known (rw q at r)
+
+    pub child-spans : (n : ℕ) → Spans (node s) s n → Spans (read_formed form node k s) s n
+    child-spans n w = go (eqb k 8) refl
+      where
+        go : (b : Bool) → eqb k 8 ≡ b → Spans (read_formed form node k s) s n
+        go true e = rw (eqb-true _ _ e) (array-spans (rw (eqb-true _ _ e) at r) n w)
+        go false e = let f = eqb-false _ _ e in let q : k ≡ 9 = omega arith in rw q (map-spans (rw q at r) n w)
 
   module _ (r : Reads (read_formed form node 11 s)) where
     pub record-known : Reads (read_list (read_field node) s)

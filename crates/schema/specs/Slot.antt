@@ -1,27 +1,21 @@
--- The two slots of a name in a table of 2,048 or 8,192, one in each half, and what stands there: equal names have the same.
-use Rattle.std.specs.Prelude.{ℕ, ◌+◌, ◌/◌, ◌%◌, Bool, true, false, ◌||◌, eqb}
+-- The two slots of a name, one in each of two tables of n, and what stands there: equal names have the same.
+use Rattle.std.specs.Prelude.{ℕ, ◌+◌, ◌/◌, ◌%◌, Bool, ◌||◌, eqb}
 use Rattle.base.specs.Base.{when◌then◌else◌}
 use Rattle.text.specs.Text.{Text}
 use Rattle.text.specs.Hash.{hash}
 
-unfoldable pub slots : Bool → ℕ
-slots true = 2048
-slots false = 8192
-
 -- by the low bits, and by the high ones
-unfoldable pub low_of : Bool → ℕ → ℕ
-low_of true h = h % 1024
-low_of false h = h % 4096
+unfoldable pub low_of : ℕ → ℕ → ℕ
+low_of n h = h % n
 
-unfoldable pub high_of : Bool → ℕ → ℕ
-high_of true h = 1024 + h / 1048576 % 1024
-high_of false h = 4096 + h / 1048576 % 4096
+unfoldable pub high_of : ℕ → ℕ → ℕ
+high_of n h = h / 1048576 % n
 
-unfoldable pub low_slot : Bool → Text → ℕ
-low_slot few t = low_of few (hash t)
+unfoldable pub low_slot : ℕ → Text → ℕ
+low_slot n t = low_of n (hash t)
 
-unfoldable pub high_slot : Bool → Text → ℕ
-high_slot few t = high_of few (hash t)
+unfoldable pub high_slot : ℕ → Text → ℕ
+high_slot n t = high_of n (hash t)
 
 -- a name's mark, and what a slot holds once a name took it: its mark, or 255 where it had another
 unfoldable pub mark_of : ℕ → ℕ

@@ -9,7 +9,7 @@ ghost use Rattle.frame.specs.ValueFrame.{read_value};
 ghost use Rattle.frame.specs.SchemaFrame.{Form, bare, read_lead, read_tables, read_symbols, read_schema_content, read_schema};
 ghost use Rattle.frame.specs.Checks.{Spans};
 
-use frame::{Checked, kind, texts_len};
+use frame::{kind, texts_len};
 use number::read2;
 use schema_parts::leaf_check;
 use text::content;
@@ -19,13 +19,7 @@ use value::value_len;
 pub fn is_bare(kind: u8) -> bool
     ensures { result ≡ bare kind }
 {
-    if kind <= kind::STRING {
-        return true;
-    }
-    if kind < kind::DATE {
-        return false;
-    }
-    kind <= kind::LOCAL_TIMESTAMP_NANOS
+    matches!(kind, kind::NULL..=kind::STRING | kind::DATE..=kind::LOCAL_TIMESTAMP_NANOS)
 }
 
 // 00, or 01 and a value.
@@ -34,9 +28,10 @@ pub fn default_skip(s: &[u8]) -> usize
     ensures { Spans (read_option (read_value 16) s.now) s.now result }
 {
     if s[0] == 0 {
-        return 1;
+        1
+    } else {
+        1 + value_len(&s[1..], 16)
     }
-    1 + value_len(&s[1..], 16)
 }
 
 // 00, or 01 and a text.
@@ -45,10 +40,10 @@ fn option_text_skip(s: &[u8]) -> usize
     ensures { Spans (read_option read_text s.now) s.now result }
 {
     if s[0] == 0 {
-        return 1;
+        1
+    } else {
+        3 + content(&s[1..]).len()
     }
-    let default = content(&s[1..]);
-    3 + default.len()
 }
 
 // Symbols and default.
@@ -66,8 +61,8 @@ pub fn leaf_skip(s: &[u8], kind: u8) -> usize
     ensures { Spans (read_schema_content (read_schema 0) kind s.now) s.now result }
 {
     match leaf_check(s, kind) {
-        Checked::Of(n, _) => n,
-        Checked::Broken => 0,
+        Some(content) => content.len,
+        None => 0,
     }
 }
 

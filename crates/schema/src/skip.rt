@@ -29,22 +29,13 @@ fn content_skip(s: &[u8], kind: u8, depth: usize) -> usize
     requires { Reads (read_schema_content (read_schema depth) kind s.now) }
     ensures { Spans (read_schema_content (read_schema depth) kind s.now) s.now result }
 {
-    if kind == kind::ARRAY {
-        return schema_len(s, depth);
+    match kind {
+        kind::ARRAY | kind::MAP => schema_len(s, depth),
+        kind::UNION => union_skip(s, depth),
+        kind::RECORD => fields_skip(s, depth),
+        kind::ENUM => enum_skip(s),
+        _ => leaf_skip(s, kind),
     }
-    if kind == kind::MAP {
-        return schema_len(s, depth);
-    }
-    if kind == kind::UNION {
-        return union_skip(s, depth);
-    }
-    if kind == kind::RECORD {
-        return fields_skip(s, depth);
-    }
-    if kind == kind::ENUM {
-        return enum_skip(s);
-    }
-    leaf_skip(s, kind)
 }
 
 // Variants and tables.
@@ -62,11 +53,10 @@ fn variants_skip(s: &[u8], depth: usize) -> usize
     requires { Reads (read_list (read_schema depth) s.now) }
     ensures { Spans (read_list (read_schema depth) s.now) s.now result }
 {
-    let mut left = read2(s, 0);
-    let mut at: usize = 2;
-    while 0 < left {
+    let count = read2(s, 0);
+    let mut at = 2;
+    for _ in 0..count {
         at += schema_len(&s[at..], depth);
-        left -= 1;
     }
     at
 }
@@ -76,11 +66,10 @@ fn fields_skip(s: &[u8], depth: usize) -> usize
     requires { Reads (read_list (read_field (read_schema depth)) s.now) }
     ensures { Spans (read_list (read_field (read_schema depth)) s.now) s.now result }
 {
-    let mut left = read2(s, 0);
-    let mut at: usize = 2;
-    while 0 < left {
+    let count = read2(s, 0);
+    let mut at = 2;
+    for _ in 0..count {
         at += field_len(&s[at..], depth);
-        left -= 1;
     }
     at
 }

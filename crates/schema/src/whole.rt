@@ -3,7 +3,7 @@ ghost use Rattle.std.specs.Prelude.{◌≡◌};
 ghost use Rattle.frame.specs.Checks.{schema_verdict};
 
 use crate::check::schema_check;
-use frame::{Checked, Verdict};
+use frame::Verdict;
 
 // The verdict on a whole frame: numbers 2 and 3.
 pub fn schema_frame(s: &[u8]) -> Verdict
@@ -12,14 +12,15 @@ pub fn schema_frame(s: &[u8]) -> Verdict
     if 65535 < s.len() {
         return Verdict::NoFrame;
     }
-    let Checked::Of(n, sound) = schema_check(s, 16) else {
+    let Some(node) = schema_check(s, 16) else {
         return Verdict::NoFrame;
     };
-    if n < s.len() {
+    if node.len < s.len() {
         return Verdict::NoFrame;
     }
-    if sound {
-        return Verdict::Sound;
+    if node.sound {
+        Verdict::Sound
+    } else {
+        Verdict::Unsound
     }
-    Verdict::Unsound
 }

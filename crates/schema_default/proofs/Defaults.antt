@@ -5,10 +5,10 @@ use mathlib.Core.List.{List}
 use mathlib.Core.Option.{none, some}
 use mathlib.Core.Bool.{Bool, true, false, ◌&&◌, not, or-false, and_assoc}
 use native.Mathlib.Omega.{arith}
-use lib.Dec.{T, leb, ltb, eqb, nleb→lt, eqb→eq}
+use lib.Dec.{T, leb, eqb, nleb→lt, eqb→eq}
 use lib.ListN.{length, drop, get_or, length-drop}
 use lib.Seq.{drop-drop}
-use borrow.Author.Tests.{lt-leb, le-ltb, lt-ltb, ne_eqb, leb-true, leb-false}
+use borrow.Author.Tests.{lt-leb, ne_eqb}
 use Rattle.base.proofs.AllBelow.{all_below}
 use Rattle.number.specs.Number.{number_at}
 use Rattle.text.specs.Text.{Text}
@@ -21,20 +21,12 @@ use Rattle.frame.specs.Readers.{read_flag, read_list, read_option}
 use Rattle.frame.specs.ValueFrame.{Content, wide, flag, counted, text, plain, array, map, union, entries, symbol, unknown, contents, kind_content, items_of, entries_of, read_entry, read_content, read_value}
 use Rattle.frame.specs.Sound.{keys_rise, default_scalar, default_kinds, default_items, default_entries, default_allowed}
 use Rattle.frame.specs.Checks.{Checks, Spans}
-use Rattle.frame.specs.declared.Checked.TheVariants.{Of}
 use Rattle.frame.proofs.ContentTable.{each-content}
 use Rattle.frame.proofs.Reading.{read-what, read-rest, not-both, bind_inv, reads-some, reads-eq, reads_first, reads-number, option-one-some}
-use Rattle.frame.proofs.Measuring.{held, checks-some}
+use Rattle.frame.proofs.Measuring.{told, held, checks-some}
 use Rattle.frame.proofs.Counting.{First, Left, left-first, left_step}
 use Rattle.frame.proofs.ValueNodes.{value-opened}
 use native.Mathlib.Nat.{add_assoc}
-
-pub below-not : (n k : ℕ) → ltb n k ≡ not (leb k n)
-below-not n k = go (leb k n) refl
-  where
-    go : (b : Bool) → leb k n ≡ b → ltb n k ≡ not b
-    go true e = le-ltb n k (leb-true k n e)
-    go false e = lt-ltb n k (leb-false k n e)
 
 -- ---- what is read and what is said of it
 
@@ -225,8 +217,8 @@ module _ (node : List ℕ → Read Value) (s : List ℕ) (at left : ℕ) (ok : B
 
 -- ---- the whole
 
-pub default-checks : (s : List ℕ) → 0 < length s → get_or s 0 0 ≡ 1 → (m : ℕ) (rise : Bool) → Checks keys_rise (read_value 16 (drop 1 s)) (drop 1 s) (Of m rise) → (kinds : Bool)
-    → ((v : Value) (u : List ℕ) → read_value 16 (drop 1 s) ≡ some (v, u) → kinds ≡ default_kinds v) → (b : Bool) → b ≡ kinds && rise → Checks default_allowed (read_option (read_value 16) s) s (Of (1 + m) b)
+pub default-checks : (s : List ℕ) → 0 < length s → get_or s 0 0 ≡ 1 → (m : ℕ) (rise : Bool) → Checks keys_rise (read_value 16 (drop 1 s)) (drop 1 s) (told m rise) → (kinds : Bool)
+    → ((v : Value) (u : List ℕ) → read_value 16 (drop 1 s) ≡ some (v, u) → kinds ≡ default_kinds v) → (b : Bool) → b ≡ kinds && rise → Checks default_allowed (read_option (read_value 16) s) s (told (1 + m) b)
 unfolding default_allowed
 default-checks s h e m rise w kinds f b g =
     let q = held keys_rise (read_value 16 (drop 1 s)) (drop 1 s) m rise w in

@@ -10,7 +10,7 @@ ghost use Rattle.frame.specs.ValueFrame.{items_of, entries_of, read_entry, read_
 ghost use Rattle.frame.specs.Sound.{default_kinds, default_items, default_entries, default_allowed};
 ghost use Rattle.frame.specs.Checks.{Checks};
 
-use frame::{Checked, both, kind};
+use frame::{Checked, kind};
 use number::{read2, read8};
 use value::{value_check, value_len};
 
@@ -18,10 +18,7 @@ use value::{value_check, value_len};
 fn outside_int(n: u64) -> bool
     ensures { result ≡ not (in_int n) }
 {
-    if n < 2147483648 {
-        return false;
-    }
-    n < 18446744071562067968
+    (2147483648..18446744071562067968).contains(&n)
 }
 
 // Whether a value is of the kinds that a default may have.
@@ -30,76 +27,68 @@ fn default_kinds(s: &[u8], depth: usize) -> bool
     requires { Reads (read_value depth s.now) }
     ensures { (v : Value) (u : List ℕ) → read_value depth s.now ≡ some (v, u) → result ≡ default_kinds v }
 {
-    let kind = s[0];
-    if kind == kind::LONG {
-        return outside_int(read8(s, 1));
+    match s[0] {
+        kind::NULL..=kind::INT => true,
+        kind::LONG => outside_int(read8(s, 1)),
+        kind::DOUBLE => scalar::finite_double(read8(s, 1)),
+        kind::STRING => true,
+        kind::ARRAY => items_kinds(&s[1..], depth - 1),
+        kind::MAP => entries_kinds(&s[1..], depth - 1),
+        _ => false,
     }
-    if kind == kind::DOUBLE {
-        return scalar::finite_double(read8(s, 1));
-    }
-    if kind == kind::STRING {
-        return true;
-    }
-    if kind == kind::ARRAY {
-        return items_kinds(&s[1..], depth - 1);
-    }
-    if kind == kind::MAP {
-        return entries_kinds(&s[1..], depth - 1);
-    }
-    kind <= kind::INT
 }
 
+// Whether all items of an array are of these kinds.
 #[cycle(kinds)]
 fn items_kinds(s: &[u8], depth: usize) -> bool
     requires { Reads (read_list (read_value depth) s.now) }
     ensures { (vs : List Value) (u : List ℕ) → read_list (read_value depth) s.now ≡ some (vs, u) → result ≡ default_items (items_of vs) }
 {
-    let mut left = read2(s, 0) as usize;
-    let mut at: usize = 2;
+    let count = read2(s, 0);
+    let mut at = 2;
     let mut ok = true;
-    while 0 < left {
-        ok = both(ok, default_kinds(&s[at..], depth));
+    for _ in 0..count {
+        ok &= default_kinds(&s[at..], depth);
         at += value_len(&s[at..], depth);
-        left -= 1;
     }
     ok
 }
 
+// The same of the values of a map's entries. Apart from items_kinds: a function over both has no proof in a cycle of calls.
 #[cycle(kinds)]
 fn entries_kinds(s: &[u8], depth: usize) -> bool
     requires { Reads (read_list (read_entry (read_value depth)) s.now) }
     ensures { (es : List (Text × Value)) (u : List ℕ) → read_list (read_entry (read_value depth)) s.now ≡ some (es, u) → result ≡ default_entries (entries_of es) }
 {
-    let mut left = read2(s, 0) as usize;
-    let mut at: usize = 2;
+    let count = read2(s, 0);
+    let mut at = 2;
     let mut ok = true;
-    while 0 < left {
+    for _ in 0..count {
         let key = text::content(&s[at..]);
         let n = 2 + key.len();
         let e = at + n;
-        ok = both(ok, default_kinds(&s[e..], depth));
+        ok &= default_kinds(&s[e..], depth);
         at = e + value_len(&s[e..], depth);
-        left -= 1;
     }
     ok
 }
 
 // 00, or 01 and a value that may be a default.
-pub fn default_check(s: &[u8]) -> Checked
+pub fn default_check(s: &[u8]) -> Option<Checked>
     ensures { Checks default_allowed (read_option (read_value 16) s.now) s.now result }
 {
-    if s.len() == 0 {
-        return Checked::Broken;
+    match s {
+        [0, ..] => Some(Checked {
+            len: 1,
+            sound: true,
+        }),
+        [1, rest @ ..] => {
+            let node = value_check(rest, 16)?;
+            Some(Checked {
+                len: 1 + node.len,
+                sound: default_kinds(rest, 16) & node.sound,
+            })
+        }
+        _ => None,
     }
-    let flag = s[0];
-    if flag == 0 {
-        return Checked::Of(1, true);
-    }
-    if flag == 1 {
-        let Checked::Of(m, rise) = value_check(&s[1..], 16) else {
-            return Checked::Broken;
-        };
-        return Checked::Of(1 + m, both(default_kinds(&s[1..], 16), rise));
-    }
-    Checked::Broken
 }

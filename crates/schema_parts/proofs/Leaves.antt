@@ -5,10 +5,10 @@ use mathlib.Core.List.{List}
 use mathlib.Core.Option.{Option, none, some}
 use mathlib.Core.Bool.{Bool, true, false}
 use native.Mathlib.Omega.{arith}
-use lib.Dec.{leb}
+use lib.Dec.{leb, eqb}
 use lib.ListN.{length, drop, get_or, length-drop}
 use lib.Seq.{drop-drop}
-use borrow.Author.Tests.{leb-true, leb-false, le-leb, lt-leb, ne_eqb}
+use borrow.Author.Tests.{leb-true, leb-false, le-leb, lt-leb, eqb-true, eqb-false, ne_eqb}
 use Rattle.number.specs.Number.{number_at}
 use Rattle.text.specs.Text.{Text}
 use Rattle.text.specs.Read.{Read, ◌>>=◌, read_number, read_text}
@@ -18,12 +18,21 @@ use Rattle.frame.specs.Tree.{Schema, UuidForm}
 use Rattle.frame.specs.Readers.{read_list, read_option}
 use Rattle.frame.specs.SchemaFrame.{Form, read_uuid_form, read_symbols, read_formed}
 use Rattle.text.specs.Measured.{Measured}
-use Rattle.text.specs.declared.Len.TheVariants as len
-use Rattle.frame.specs.Sound.{schema_sound}
+use Rattle.std.specs.Prelude.{Some, None}
+use Rattle.frame.specs.Sound.{schema_sound, uuid_size_sound}
 use Rattle.frame.specs.Checks.{Checks}
-use Rattle.frame.specs.declared.Checked.TheVariants.{Of}
-use Rattle.frame.proofs.Reading.{bind-some, bind-none, map_read}
-use Rattle.frame.proofs.Measuring.{Long, long, measured-broken, checks-some}
+use Rattle.frame.proofs.Reading.{bind-some, bind-none, map_read, option-one-none, option-other}
+use Rattle.frame.proofs.Measuring.{told, Long, long, measured-broken, checks-some}
+
+-- ---- 00, or 01 and a size
+
+-- a flag other than 0, and no size behind it
+pub size-short : (s : List ℕ) → 0 < length s → length s < 3 → (get_or s 0 0 ≡ 0 → ⊥) → read_option (read_number 2) s ≡ none
+size-short s h g f = go (eqb (get_or s 0 0) 1) refl
+  where
+    go : (b : Bool) → eqb (get_or s 0 0) 1 ≡ b → read_option (read_number 2) s ≡ none
+    go true e = option-one-none _ s h (eqb-true _ _ e) (read_number-none 2 _ (omega (arith, length-drop 1 s)))
+    go false e = option-other _ s h f (eqb-false _ _ e)
 
 -- ---- content
 
@@ -41,14 +50,14 @@ module _ (form : Form) (node : List ℕ → Read Schema) (s : List ℕ) where
   unfolding read_formed read_symbols ◌>>=◌
   enum-later ss a e g = rw (e, g)
 
-  pub enum-checks : (a b : ℕ) → Measured (read_list read_text s) s (len.Of a) → Measured (read_option read_text (drop a s)) (drop a s) (len.Of b) → Checks schema_sound (read_formed form node 12 s) s (Of (a + b) true)
+  pub enum-checks : (a b : ℕ) → Measured (read_list read_text s) s (Some a) → Measured (read_option read_text (drop a s)) (drop a s) (Some b) → Checks schema_sound (read_formed form node 12 s) s (told (a + b) true)
   unfolding schema_sound
   enum-checks a b v w =
       let q : Long (read_list read_text s) s a = long _ _ a v in
       let u : Long (read_option read_text (drop a s)) (drop a s) b = long _ _ b w in
       checks-some schema_sound _ s (a + b) true (omega (arith, q.inside, u.inside, length-drop a s)) (Schema.Enum q.what u.what) (enum-got q.what a u.what b q.read u.read) refl
 
-  pub enum-broken : (a : ℕ) → Measured (read_list read_text s) s (len.Of a) → Measured (read_option read_text (drop a s)) (drop a s) len.Broken → read_formed form node 12 s ≡ none
+  pub enum-broken : (a : ℕ) → Measured (read_list read_text s) s (Some a) → Measured (read_option read_text (drop a s)) (drop a s) None → read_formed form node 12 s ≡ none
   enum-broken a v w =
       let q : Long (read_list read_text s) s a = long _ _ a v in
       enum-later q.what a q.read (measured-broken _ _ w)
@@ -76,7 +85,7 @@ module _ (form : Form) (node : List ℕ → Read Schema) (s : List ℕ) where
   pub decimal-got : 8 ≤ length s → (n : Option ℕ) (m : ℕ) → read_option (read_number 2) (drop 8 s) ≡ some (n, drop m (drop 8 s)) → read_formed form node 14 s ≡ some (Schema.Decimal (number_at s 0 4) (number_at s 4 4) n, drop (8 + m) s)
   decimal-got h n m e = decimal-open h ∙ bind-some _ _ n (drop m (drop 8 s)) e ∙ ap (λ t. some (Schema.Decimal (number_at s 0 4) (number_at s 4 4) n, t)) (drop-drop m 8 s)
 
-  pub decimal-checks : 8 ≤ length s → (m : ℕ) → Measured (read_option (read_number 2) (drop 8 s)) (drop 8 s) (len.Of m) → Checks schema_sound (read_formed form node 14 s) s (Of (8 + m) true)
+  pub decimal-checks : 8 ≤ length s → (m : ℕ) → Measured (read_option (read_number 2) (drop 8 s)) (drop 8 s) (Some m) → Checks schema_sound (read_formed form node 14 s) s (told (8 + m) true)
   unfolding schema_sound
   decimal-checks h m w =
       let q : Long (read_option (read_number 2) (drop 8 s)) (drop 8 s) m = long _ _ m w in
@@ -97,9 +106,14 @@ module _ (form : Form) (node : List ℕ → Read Schema) (s : List ℕ) where
   unfolding read_formed read_uuid_form ◌>>=◌
   uuid-string h e = rw (read_number-some 1 s h, number_at-one s 0 h, e)
 
-  pub uuid-short : 0 < length s → get_or s 0 0 ≡ 2 → length s < 3 → read_formed form node 15 s ≡ none
-  unfolding read_formed read_uuid_form ◌>>=◌
-  uuid-short h e g = rw (read_number-some 1 s h, number_at-one s 0 h, e, read_number-none 2 (drop 1 s) (omega (arith, length-drop 1 s)))
+  -- the two forms with no size
+  pub uuid-free : 0 < length s → get_or s 0 0 < 2 → Checks schema_sound (read_formed form node 15 s) s (told 1 true)
+  unfolding schema_sound uuid_size_sound
+  uuid-free h g = go (eqb (get_or s 0 0) 0) refl
+    where
+      go : (b : Bool) → eqb (get_or s 0 0) 0 ≡ b → Checks schema_sound (read_formed form node 15 s) s (told 1 true)
+      go true e = checks-some schema_sound _ s 1 true h _ (uuid-bytes h (eqb-true _ _ e)) refl
+      go false e = let f = eqb-false _ _ e in checks-some schema_sound _ s 1 true h _ (uuid-string h (omega arith)) refl
 
   pub uuid-fixed : 3 ≤ length s → get_or s 0 0 ≡ 2 → read_formed form node 15 s ≡ some (Schema.Uuid (UuidForm.fixed (number_at s 1 2)), drop 3 s)
   unfolding read_formed read_uuid_form ◌>>=◌
@@ -108,6 +122,15 @@ module _ (form : Form) (node : List ℕ → Read Schema) (s : List ℕ) where
   pub uuid-other : 0 < length s → (get_or s 0 0 ≡ 0 → ⊥) → (get_or s 0 0 ≡ 1 → ⊥) → (get_or s 0 0 ≡ 2 → ⊥) → read_formed form node 15 s ≡ none
   unfolding read_formed read_uuid_form ◌>>=◌
   uuid-other h f g k = rw (read_number-some 1 s h, number_at-one s 0 h, ne_eqb _ _ f, ne_eqb _ _ g, ne_eqb _ _ k)
+
+  -- another form, and no size behind it
+  pub uuid-short : 0 < length s → length s < 3 → 1 < get_or s 0 0 → read_formed form node 15 s ≡ none
+  unfolding read_formed read_uuid_form ◌>>=◌
+  uuid-short h g f = go (eqb (get_or s 0 0) 2) refl
+    where
+      go : (b : Bool) → eqb (get_or s 0 0) 2 ≡ b → read_formed form node 15 s ≡ none
+      go true e = rw (read_number-some 1 s h, number_at-one s 0 h, eqb-true _ _ e, read_number-none 2 (drop 1 s) (omega (arith, length-drop 1 s)))
+      go false e = uuid-other h (omega arith) (omega arith) (eqb-false _ _ e)
 
   pub duration-got : 2 ≤ length s → read_formed form node 25 s ≡ some (Schema.Duration (number_at s 0 2), drop 2 s)
   unfolding read_formed ◌>>=◌

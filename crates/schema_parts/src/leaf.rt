@@ -1,172 +1,135 @@
 // Schema nodes without children: what stands behind their kind byte.
-ghost use Rattle.std.specs.Prelude.{List, ℕ, ◌≤◌, ◌<◌};
-ghost use Rattle.text.specs.Read.{Read, read_number, read_text};
+ghost use Rattle.std.specs.Prelude.{◌≤◌, ◌<◌};
+ghost use Rattle.text.specs.Read.{read_number, read_text};
 ghost use Rattle.text.specs.Measured.{Measured};
 ghost use Rattle.frame.specs.Kind;
-ghost use Rattle.frame.specs.Tree.{Schema};
 ghost use Rattle.frame.specs.Readers.{read_list, read_option};
-ghost use Rattle.frame.specs.SchemaFrame.{Form, read_formed};
-ghost use Rattle.frame.specs.Sound.{schema_sound};
-ghost use Rattle.frame.specs.Checks.{Checks};
+ghost use Rattle.schema_parts.specs.Leaf.{ChecksLeaf};
 
 use frame::{Checked, kind};
 use number::read2;
-use text::{Len, text_len};
+use text::text_len;
 
 // A count and as many texts.
-fn texts_measured(s: &[u8]) -> Len
+fn texts_measured(s: &[u8]) -> Option<usize>
     ensures { Measured (read_list read_text s.now) s.now result }
 {
     if s.len() < 2 {
-        return Len::Broken;
+        return None;
     }
-    let mut left = read2(s, 0) as usize;
-    let mut at: usize = 2;
-    while 0 < left {
-        let Len::Of(m) = text_len(&s[at..]) else {
-            return Len::Broken;
-        };
-        at += m;
-        left -= 1;
+    let count = read2(s, 0);
+    let mut at = 2;
+    for _ in 0..count {
+        at += text_len(&s[at..])?;
     }
-    Len::Of(at)
+    Some(at)
 }
 
 // 00, or 01 and a text.
-fn option_text_len(s: &[u8]) -> Len
+fn option_text_len(s: &[u8]) -> Option<usize>
     ensures { Measured (read_option read_text s.now) s.now result }
 {
-    if s.len() == 0 {
-        return Len::Broken;
+    match s {
+        [0, ..] => Some(1),
+        [1, rest @ ..] => Some(1 + text_len(rest)?),
+        _ => None,
     }
-    let flag = s[0];
-    if flag == 0 {
-        return Len::Of(1);
-    }
-    if flag == 1 {
-        let Len::Of(m) = text_len(&s[1..]) else {
-            return Len::Broken;
-        };
-        return Len::Of(1 + m);
-    }
-    Len::Broken
 }
 
 // 00, or 01 and a size.
-fn option_size_len(s: &[u8]) -> Len
+fn option_size_len(s: &[u8]) -> Option<usize>
     ensures { Measured (read_option (read_number 2) s.now) s.now result }
 {
-    if s.len() == 0 {
-        return Len::Broken;
+    match s {
+        [0, ..] => Some(1),
+        [1, _, _, ..] => Some(3),
+        _ => None,
     }
-    let flag = s[0];
-    if flag == 0 {
-        return Len::Of(1);
-    }
-    if flag == 1 {
-        if s.len() < 3 {
-            return Len::Broken;
-        }
-        return Len::Of(3);
-    }
-    Len::Broken
 }
 
 // Symbols and default.
-fn enum_check(s: &[u8]) -> Checked
-    ensures { (form : Form) (node : List ℕ → Read Schema) → Checks schema_sound (read_formed form node Kind.Enum s.now) s.now result }
+fn enum_check(s: &[u8]) -> Option<Checked>
+    ensures { ChecksLeaf Kind.Enum s.now result }
 {
-    let Len::Of(a) = texts_measured(s) else {
-        return Checked::Broken;
-    };
-    let Len::Of(b) = option_text_len(&s[a..]) else {
-        return Checked::Broken;
-    };
-    Checked::Of(a + b, true)
+    let a = texts_measured(s)?;
+    let b = option_text_len(&s[a..])?;
+    Some(Checked {
+        len: a + b,
+        sound: true,
+    })
 }
 
 // Precision, scale and size.
-fn decimal_check(s: &[u8]) -> Checked
-    ensures { (form : Form) (node : List ℕ → Read Schema) → Checks schema_sound (read_formed form node Kind.Decimal s.now) s.now result }
+fn decimal_check(s: &[u8]) -> Option<Checked>
+    ensures { ChecksLeaf Kind.Decimal s.now result }
 {
     if s.len() < 8 {
-        return Checked::Broken;
+        return None;
     }
-    let Len::Of(m) = option_size_len(&s[8..]) else {
-        return Checked::Broken;
-    };
-    Checked::Of(8 + m, true)
+    let m = option_size_len(&s[8..])?;
+    Some(Checked {
+        len: 8 + m,
+        sound: true,
+    })
 }
 
-fn fixed_check(s: &[u8]) -> Checked
-    ensures { (form : Form) (node : List ℕ → Read Schema) → Checks schema_sound (read_formed form node Kind.Fixed s.now) s.now result }
+fn fixed_check(s: &[u8]) -> Option<Checked>
+    ensures { ChecksLeaf Kind.Fixed s.now result }
 {
     if s.len() < 2 {
-        return Checked::Broken;
+        return None;
     }
-    Checked::Of(2, true)
+    Some(Checked {
+        len: 2,
+        sound: true,
+    })
 }
 
 // The form of a UUID; one of fixed size has 16 bytes.
-fn uuid_check(s: &[u8]) -> Checked
-    ensures { (form : Form) (node : List ℕ → Read Schema) → Checks schema_sound (read_formed form node Kind.Uuid s.now) s.now result }
+fn uuid_check(s: &[u8]) -> Option<Checked>
+    ensures { ChecksLeaf Kind.Uuid s.now result }
 {
-    if s.len() == 0 {
-        return Checked::Broken;
+    match s {
+        [0 | 1, ..] => Some(Checked {
+            len: 1,
+            sound: true,
+        }),
+        [2, _, _, ..] => Some(Checked {
+            len: 3,
+            sound: read2(s, 1) == 16,
+        }),
+        _ => None,
     }
-    let form = s[0];
-    if form == 0 {
-        return Checked::Of(1, true);
-    }
-    if form == 1 {
-        return Checked::Of(1, true);
-    }
-    if form == 2 {
-        if s.len() < 3 {
-            return Checked::Broken;
-        }
-        let size = read2(s, 1);
-        return Checked::Of(3, size == 16);
-    }
-    Checked::Broken
 }
 
 // The size of a Duration is 12.
-fn duration_check(s: &[u8]) -> Checked
-    ensures { (form : Form) (node : List ℕ → Read Schema) → Checks schema_sound (read_formed form node Kind.Duration s.now) s.now result }
+fn duration_check(s: &[u8]) -> Option<Checked>
+    ensures { ChecksLeaf Kind.Duration s.now result }
 {
     if s.len() < 2 {
-        return Checked::Broken;
+        return None;
     }
-    let size = read2(s, 0);
-    Checked::Of(2, size == 12)
+    Some(Checked {
+        len: 2,
+        sound: read2(s, 0) == 12,
+    })
 }
 
 // The content of a kind that has no child nodes.
-pub fn leaf_check(s: &[u8], kind: u8) -> Checked
+pub fn leaf_check(s: &[u8], kind: u8) -> Option<Checked>
     requires { Kind.Array ≤ kind → Kind.Record < kind }
-    ensures { (form : Form) (node : List ℕ → Read Schema) → Checks schema_sound (read_formed form node kind s.now) s.now result }
+    ensures { ChecksLeaf kind s.now result }
 {
-    if kind < kind::ARRAY {
-        return Checked::Of(0, true);
+    match kind {
+        kind::NULL..=kind::STRING | kind::DATE..=kind::LOCAL_TIMESTAMP_NANOS => Some(Checked {
+            len: 0,
+            sound: true,
+        }),
+        kind::ENUM => enum_check(s),
+        kind::FIXED => fixed_check(s),
+        kind::DECIMAL => decimal_check(s),
+        kind::UUID => uuid_check(s),
+        kind::DURATION => duration_check(s),
+        _ => None,
     }
-    if kind == kind::ENUM {
-        return enum_check(s);
-    }
-    if kind == kind::FIXED {
-        return fixed_check(s);
-    }
-    if kind == kind::DECIMAL {
-        return decimal_check(s);
-    }
-    if kind == kind::UUID {
-        return uuid_check(s);
-    }
-    if kind == kind::DURATION {
-        return duration_check(s);
-    }
-    if kind < kind::DURATION {
-        return Checked::Of(0, true);
-    }
-    Checked::Broken
 }

@@ -25,7 +25,6 @@ use Rattle.frame.specs.Sound.{checked_value}
 use Rattle.buffer.specs.After.{checked_result, buffer_after}
 use Rattle.hulmbax.specs.Answer.{answer, record_answer, checked_schema, workspace_after, workspace_size}
 use Rattle.hulmbax.specs.Entry.{resolved_of}
-use Rattle.hulmbax.specs.declared.Resolved.{Resolved}
 use Rattle.frame.proofs.SoundLaws.{sound-field}
 use Rattle.avro.specs.Pairs.{nullable_pair, nullable_pairs, is_null, only_null_leads_to}
 use Rattle.avro.proofs.SchemaCases.{childless, NotUnion, EveryField, every, pair, Steps, induction}
@@ -376,7 +375,7 @@ answers-same schema a b tree e p l buffer workspace =
     (ap (λ (r : Result (List ℕ)). when ltb workspace workspace_size then stop 1 else r) (checked-same tree p l.left l.right l.equal (λ r. checked_result buffer (encode_value r))))
 
 -- what two calls show of one answer
-one_answer : (x y : Result (List ℕ)) → x ≡ y → (buffer workspace buffer₁ workspace₁ buffer₂ workspace₂ : List ℕ) (r₁ r₂ : Resolved)
+one_answer : (x y : Result (List ℕ)) → x ≡ y → (buffer workspace buffer₁ workspace₁ buffer₂ workspace₂ : List ℕ) (r₁ r₂ : Result ℕ)
     → r₁ ≡ resolved_of x → buffer₁ ≡ buffer_after x buffer → workspace₁ ≡ workspace_after x workspace
     → r₂ ≡ resolved_of y → buffer₂ ≡ buffer_after y buffer → workspace₂ ≡ workspace_after y workspace
     → (r₁ ≡ r₂) × (buffer₁ ≡ buffer₂) × (workspace₁ ≡ workspace₂)

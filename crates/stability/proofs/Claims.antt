@@ -19,7 +19,6 @@ use Rattle.avro.specs.Nans.{no_nan}
 use Rattle.buffer.specs.After.{buffer_after}
 use Rattle.hulmbax.specs.Answer.{answer, workspace_size}
 use Rattle.hulmbax.specs.Entry.{resolved_of}
-use Rattle.hulmbax.specs.declared.Resolved.TheVariants.{Accepted}
 use Rattle.hulmbax.proofs.Told.{ok-is, buffer-accepted}
 use Rattle.hulmbax.proofs.Answered.{SchemaPasses, ValuePasses, Answered, short-workspace, no-schema, unsound-schema, long-default, no_value, fallen-keys, refused, too_long, accepted, answered, answer-only}
 use Rattle.stability.specs.Claims.{Called, WithoutNan, Suits, Fits, Repeat, standing, Repeated, AllGive, Repeats, Decided}
@@ -64,7 +63,7 @@ frame_back {schema} {value} m g h =
     (held-resolve m.tree 16 (schema-held schema m.tree g m.schema-passes.frame) m.input 16 (decode-held value m.input h m.value_passes.frame)) m.resolved in
     ap decode_value (sym m.bytes) ∙ decode-encode m.outcome k (le→leb (length (encode_value m.outcome)) 65535 m.size)
 
-module _ {schema value buffer buffer' workspace workspace' : List ℕ} {n : ℕ} (c : Called schema value buffer buffer' workspace workspace' (Accepted n)) where
+module _ {schema value buffer buffer' workspace workspace' : List ℕ} {n : ℕ} (c : Called schema value buffer buffer' workspace workspace' (ok n)) where
   call-shown : Shown schema value (take n buffer')
   call-shown =
       shown (answered schema value (length buffer) (length workspace)) (ok-is (answer schema value (length buffer) (length workspace)) buffer buffer' n c.answered c.contents).0
@@ -135,7 +134,7 @@ again a buffer workspace b w =
 -- gives the result again, where it stands in its buffer
 repeat-gives : {schema result : List ℕ} (a : Settled schema result) (c : Repeat)
     → Called schema result c.buffer c.buffer' c.workspace c.workspace' c.told → length result ≤ length c.buffer → workspace_size ≤ length c.workspace
-    → (c.told ≡ Accepted (length result)) × (take (length result) c.buffer' ≡ result)
+    → (c.told ≡ ok (length result)) × (take (length result) c.buffer' ≡ result)
 unfolding resolved_of
 repeat-gives {schema} {result} a c call b w =
     let e : answer schema result (length c.buffer) (length c.workspace) ≡ ok result = again a (length c.buffer) (length c.workspace) b w in (
@@ -148,7 +147,7 @@ all_give : {schema result : List ℕ} → Settled schema result → (calls : Lis
 unfolding Repeated AllGive standing
 all_give a [] h = tt
 all_give {schema} {result} a (c ∷ cs) h =
-    let g : (c.told ≡ Accepted (length result)) × (take (length result) c.buffer' ≡ result) = repeat-gives a c h.0 h.1 h.2 in
+    let g : (c.told ≡ ok (length result)) × (take (length result) c.buffer' ≡ result) = repeat-gives a c h.0 h.1 h.2 in
     let s : standing c.told c.buffer' ≡ result = ap (λ r. standing r c.buffer') g.0 ∙ g.1 in
     (g.0, g.1, all_give a cs (subst (λ (last : List ℕ). Repeated schema last cs) s h.3))
 

@@ -7,7 +7,7 @@ use mathlib.Core.List.{List, [], ◌∷◌}
 use mathlib.Core.Option.{none, some}
 use lib.Dec.{T}
 use lib.ListN.{length, take, replicate, length-replicate}
-use Rattle.base.specs.Base.{ok}
+use Rattle.base.specs.Base.{Result, ok}
 use Rattle.number.specs.Number.{all_bytes}
 use Rattle.frame.specs.Kind
 use Rattle.frame.specs.Tree.{Value, Schema, variant, no_variants, field, no_fields, entry, no_entries}
@@ -16,8 +16,6 @@ use Rattle.buffer.specs.After.{buffer_after}
 use Rattle.hulmbax.specs.Answer.{answer, workspace_after, workspace_size}
 use Rattle.hulmbax.specs.Entry.{resolved_of}
 use Rattle.hulmbax.specs.Finishes.{hex}
-use Rattle.hulmbax.specs.declared.Resolved.{Resolved}
-use Rattle.hulmbax.specs.declared.Resolved.TheVariants.{Accepted}
 use Rattle.hulmbax.proofs.Computed.{computed}
 use Rattle.stability.specs.Stability
 use Rattle.avro.specs.Matches.{fits}
@@ -33,7 +31,7 @@ room = let n : ℕ = 0 in (replicate 65536 n, length-replicate 65536 n)
 
 -- an accepted call in that workspace
 called : (schema value buffer result : List ℕ) → T (all_bytes schema) → T (all_bytes value) → answer schema value (length buffer) workspace_size ≡ ok result
-    → Called schema value buffer (buffer_after (ok result) buffer) room.0 (workspace_after (ok result) room.0) (Accepted (length result))
+    → Called schema value buffer (buffer_after (ok result) buffer) room.0 (workspace_after (ok result) room.0) (ok (length result))
 unfolding resolved_of
 called schema value buffer result h k e =
     let q : answer schema value (length buffer) (length room.0) ≡ ok result = ap (answer schema value (length buffer)) room.1 ∙ e in
@@ -70,7 +68,7 @@ double-suits = record {
   pairs = tt;
 }
 
-double-called : Called double five buffer five_double room.0 (workspace_after (ok five_double) room.0) (Accepted 14)
+double-called : Called double five buffer five_double room.0 (workspace_after (ok five_double) room.0) (ok 14)
 unfolding computed
 double-called = called double five buffer five_double tt tt refl
 
@@ -81,12 +79,12 @@ double-fits = fitting double five buffer five_double room.0 (workspace_after (ok
 
 -- and repeats, here twice
 abbrev again : Repeat
-again = record { buffer = buffer; buffer' = five_double; workspace = room.0; workspace' = workspace_after (ok five_double) room.0; told = Accepted 14 }
+again = record { buffer = buffer; buffer' = five_double; workspace = room.0; workspace' = workspace_after (ok five_double) room.0; told = ok 14 }
 
 double-repeated : Repeated double (take 14 five_double) (again ∷ again ∷ [])
 unfolding Repeated standing computed
 double-repeated =
-    let c : Called double five_double buffer five_double room.0 (workspace_after (ok five_double) room.0) (Accepted 14) = called double five_double buffer five_double tt tt refl in
+    let c : Called double five_double buffer five_double room.0 (workspace_after (ok five_double) room.0) (ok 14) = called double five_double buffer five_double tt tt refl in
     (c, omega arith, omega (arith, room.1), (c, omega arith, omega (arith, room.1), tt))
 
 pub double-repeats : AllGive (take 14 five_double) (again ∷ again ∷ [])
@@ -115,7 +113,7 @@ sail-suits = record {
   pairs = tt;
 }
 
-sail-called : Called fixed sail sail fixed_sail room.0 (workspace_after (ok fixed_sail) room.0) (Accepted 7)
+sail-called : Called fixed sail sail fixed_sail room.0 (workspace_after (ok fixed_sail) room.0) (ok 7)
 unfolding computed
 sail-called = called fixed sail sail fixed_sail tt tt refl
 
@@ -126,7 +124,7 @@ sail-fits = fitting fixed sail sail fixed_sail room.0 (workspace_after (ok fixed
 
 -- and repeats
 abbrev sail_again : Repeat
-sail_again = record { buffer = sail; buffer' = fixed_sail; workspace = room.0; workspace' = workspace_after (ok fixed_sail) room.0; told = Accepted 7 }
+sail_again = record { buffer = sail; buffer' = fixed_sail; workspace = room.0; workspace' = workspace_after (ok fixed_sail) room.0; told = ok 7 }
 
 sail-repeated : Repeated fixed (take 7 fixed_sail) (sail_again ∷ [])
 unfolding Repeated standing computed
@@ -166,16 +164,16 @@ one_alike = record {
 abbrev small : List ℕ
 small = hex "0102030405060708090a0b"
 
-without-called : Called one without small without room.0 (workspace_after (ok without) room.0) (Accepted 11)
+without-called : Called one without small without room.0 (workspace_after (ok without) room.0) (ok 11)
 unfolding computed
 without-called = called one without small without tt tt refl
 
-further-called : Called one further small without room.0 (workspace_after (ok without) room.0) (Accepted 11)
+further-called : Called one further small without room.0 (workspace_after (ok without) room.0) (ok 11)
 unfolding computed
 further-called = called one further small without tt tt refl
 
 -- and get the same, whatever buffer and workspace they are handed in with
-pub further-alike : (buffer workspace buffer₁ workspace₁ buffer₂ workspace₂ : List ℕ) (r₁ r₂ : Resolved)
+pub further-alike : (buffer workspace buffer₁ workspace₁ buffer₂ workspace₂ : List ℕ) (r₁ r₂ : Result ℕ)
     → Called one without buffer buffer₁ workspace workspace₁ r₁ → Called one further buffer buffer₂ workspace workspace₂ r₂
     → (r₁ ≡ r₂) × (buffer₁ ≡ buffer₂) × (workspace₁ ≡ workspace₂)
 unfolding Alike computed Pairs.nullable_pairs
@@ -192,7 +190,7 @@ pub stored-reads : decode_value stored
 unfolding computed
 stored-reads = refl
 
-stored-called : Called one stored small without room.0 (workspace_after (ok without) room.0) (Accepted 11)
+stored-called : Called one stored small without room.0 (workspace_after (ok without) room.0) (ok 11)
 unfolding computed
 stored-called = called one stored small without tt tt refl
 

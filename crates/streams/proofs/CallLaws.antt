@@ -1,20 +1,17 @@
 -- What a call did, by its answer and the system's number as signed numbers and as their bits. Assumes nothing.
-use Prim.Native.Nat.{ℕ, zero, suc, ◌≤◌, ◌<◌, ◌^◌}
-use mathlib.Core.Path.{◌≡◌, refl, sym, ap, subst, ◌∙◌}
+use Prim.Native.Nat.{ℕ, zero, suc, ◌≤◌, ◌<◌}
+use mathlib.Core.Path.{◌≡◌, refl, sym, ap, ◌∙◌}
 use mathlib.Core.Bool.{Bool, true, false}
 use native.Mathlib.Omega.{arith}
-use borrow.Author.Tests.{eq-eqb, ne_eqb, ltb-true}
-use lib.Dec.{T}
-use lib.IntN.{ℤ, pos, negsuc, nat_abs}
-use lib.Signed.{lt_z, non_neg}
-use mir.Syntax.{w32, w64}
+use borrow.Author.Tests.{eq-eqb, ne_eqb}
+use lib.IntN.{ℤ, pos, negsuc}
+use mir.Syntax.{w32}
 use mir.Val.{to_z, of_z, SFits}
 use mir.ValLaws.{to_z-of_z}
-use Rattle.std.proofs.Math.Facts.{to_z_pos}
 use Rattle.std.specs.Prelude.{Result, Ok, Option, None, Some, IfOk, IfSome, if◌then◌else◌}
 use Rattle.streams.specs.Calls.{interrupted, would_wait, is, unmoved, after, Within}
 use Rattle.streams.specs.declared.calls.Step.{Step}
-use Rattle.streams.specs.declared.calls.Step.TheVariants.{Took, Again, Wait, Failed}
+use Rattle.streams.specs.declared.calls.Step.TheVariants.{Took, Nothing, Again, Wait, Failed}
 
 -- ---- the system's number
 
@@ -36,20 +33,14 @@ module _ (n : ℕ) (z : ℤ) (fits : SFits w32 z) where
 
 -- ---- the answer
 
-pub below : (z e : ℤ) → lt_z z (pos 0) ≡ true → unmoved e ≡ after z e
+pub took : (n : ℕ) (e : ℤ) → (n ≡ 0 → ⊥) → Took n ≡ after (pos n) e
 unfolding after
-below (pos n) e h = absurd (omega (arith, ltb-true n 0 h))
-below (negsuc n) e h = refl
+took zero e f = absurd (f refl)
+took (suc n) e f = refl
 
-pub not-below : (z : ℤ) → lt_z z (pos 0) ≡ false → T (non_neg z)
-not-below (pos n) h = tt
-not-below (negsuc n) h = absurd (subst T h tt)
-
-pub took : (z e : ℤ) → T (non_neg z) → (of_z w64 z ≡ 0 → ⊥) → Took (nat_abs z) ≡ after z e
+pub nothing : (e : ℤ) → Nothing ≡ after (pos 0) e
 unfolding after
-took (pos zero) e t f = absurd (f refl)
-took (pos (suc n)) e t f = refl
-took (negsuc n) e t f = absurd t
+nothing e = refl
 
 -- ---- the bytes that were moved
 
@@ -60,17 +51,14 @@ within-if room false true = tt
 within-if room false false = tt
 
 -- no more than were handed over
-within-after : (room n : ℕ) (e : ℤ) → n ≤ room → Within room (after (pos n) e)
+pub within-after : (room n : ℕ) (e : ℤ) → n ≤ room → Within room (after (pos n) e)
 unfolding Within after
 within-after room zero e h = tt
 within-after room (suc k) e h = (omega arith, h)
 
-pub within-moved : (room n : ℕ) (e : ℤ) → n < 2 ^ 63 → n ≤ room → Within room (after (to_z w64 n) e)
-within-moved room n e f h = subst (λ (z : ℤ). Within room (after z e)) (sym (to_z_pos w64 f)) (within-after room n e h)
-
-pub within-unmoved : (room k : ℕ) (e : ℤ) → Within room (after (negsuc k) e)
-unfolding Within after unmoved
-within-unmoved room k e = within-if room (is interrupted e) (is would_wait e)
+pub within-unmoved : (room : ℕ) (e : ℤ) → Within room (unmoved e)
+unfolding unmoved
+within-unmoved room e = within-if room (is interrupted e) (is would_wait e)
 
 pub within-failed : (room : ℕ) → Within room Failed
 unfolding Within
@@ -84,10 +72,6 @@ pub ok-most : {E : Type 0} (r : Result ℕ E) (room n : ℕ) → r ≡ Ok n → 
 ok-most r room n e h = rw e at h
 
 -- ---- an error's number
-
-pub unmoved-after : (k : ℕ) (e : ℤ) → after (negsuc k) e ≡ unmoved e
-unfolding after
-unmoved-after k e = refl
 
 pub some-unmoved : (o : Option ℤ) (z : ℤ) (s : Step) → s ≡ unmoved z → IfSome o (λ code. z ≡ code) → IfSome o (λ code. s ≡ unmoved code)
 some-unmoved None z s e h = tt

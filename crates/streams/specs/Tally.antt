@@ -1,10 +1,10 @@
--- What a program counts that holds its answers to a list. Whether a write goes through is the system's; once one has not, none is counted as written.
-use Rattle.std.specs.Prelude.{ℕ, ◌+◌, ◌≡◌, Bool, true, false, ltb, if◌then◌else◌}
+-- What a program counts that holds its answers to a list.
+use Rattle.std.specs.Prelude.{ℕ, ◌+◌, ◌≡◌, Bool, ltb, if◌then◌else◌}
 use Rattle.streams.specs.declared.tally.Tally.{Tally}
 
 -- nothing read yet
 abbrev pub started : Tally
-started = record { line = 0; compared = 0; differ = 0; ok = true }
+started = record { line = 0; compared = 0; differ = 0 }
 
 -- one more, up to a number that no list reaches
 abbrev pub one_more : ℕ → ℕ
@@ -12,12 +12,10 @@ one_more n = if ltb n 1000000000 then n + 1 else n
 
 -- a line that expects no answer
 abbrev pub passed_over : Tally → Tally
-passed_over t = record { line = one_more t.line; compared = t.compared; differ = t.differ; ok = t.ok }
+passed_over t = record { line = one_more t.line; compared = t.compared; differ = t.differ }
 
 -- r is t after a line whose answer is the expected one, or another
 pub record Compared (t : Tally) (same : Bool) (r : Tally) : Type 0 where
   pub line_is : r.line ≡ one_more t.line
   pub compared_is : r.compared ≡ one_more t.compared
   pub differ_is : r.differ ≡ (if same then t.differ else one_more t.differ)
-  pub same_ok : same ≡ true → r.ok ≡ t.ok
-  pub failed : t.ok ≡ false → r.ok ≡ false

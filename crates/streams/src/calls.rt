@@ -33,43 +33,35 @@ pub(crate) struct Call {
     pub error: Option<io::Error>,
 }
 
-// A call that answered -1, by the system's number for the reason.
+// A call that answered no error, by how many bytes it moved.
+fn after(moved: usize) -> Step
+    ensures { result ≡ after (pos moved) (pos 0) }
+{
+    if moved == 0 {
+        Step::Nothing
+    } else {
+        Step::Took(moved)
+    }
+}
+
+// A call that answered an error, by the system's number for it. An `if` and no match, so that goals go by the numbers' names.
 fn unmoved(error: i32) -> Step
     ensures { result ≡ unmoved error }
 {
     if error == EINTR {
-        return Step::Again;
+        Step::Again
+    } else if error == EAGAIN {
+        Step::Wait
+    } else {
+        Step::Failed
     }
-    if error == EAGAIN {
-        return Step::Wait;
-    }
-    Step::Failed
-}
-
-// A call, by its answer and the system's number.
-fn after(got: isize, error: i32) -> Step
-    ensures { result ≡ after got error }
-{
-    if got < 0 {
-        return unmoved(error);
-    }
-    if got == 0 {
-        return Step::Nothing;
-    }
-    Step::Took(got as usize)
 }
 
 #[tactic(auto, unfolding(crate::specs::Calls::is_again))]
 fn is_again(s: Step) -> bool
     ensures { result ≡ is_again s }
 {
-    match s {
-        Step::Took(_) => false,
-        Step::Nothing => false,
-        Step::Again => true,
-        Step::Wait => false,
-        Step::Failed => false,
-    }
+    matches!(s, Step::Again)
 }
 
 // The system's number for an error's kind, of an error that has no number; 0 for a kind that ends the run.
@@ -101,11 +93,11 @@ fn called(moved: io::Result<usize>, handed: &[u8]) -> Call
 {
     match moved {
         Ok(n) => Call {
-            step: after(n as isize, 0),
+            step: after(n),
             error: None,
         },
         Err(e) => Call {
-            step: after(-1, number_of(&e)),
+            step: unmoved(number_of(&e)),
             error: Some(e),
         },
     }
@@ -122,20 +114,18 @@ fn failed(error: io::Error) -> Call
 }
 
 // A read that a signal broke off is tried again.
-// A proved loop has to end, so the turns are counted down from a number that no run uses up.
+// A proved loop has to end, so there are as many turns as no run uses up.
 #[tactic(auto, unfolding(crate::specs::Calls::Within, crate::specs::Calls::is_again))]
 fn read_on<R: Read>(from: &mut R, block: &mut [u8]) -> Call
     ensures within { Within (length block.new) result.step }
     ensures ended { is_again result.step ≡ false }
 {
-    let mut turns = u64::MAX;
-    while turns > 0 {
+    for _ in 0..u64::MAX {
         let moved = from.read(block);
         let call = called(moved, block);
         if !is_again(call.step) {
             return call;
         }
-        turns -= 1;
     }
     failed(io::Error::from_raw_os_error(EINTR))
 }
@@ -146,14 +136,12 @@ fn write_on<W: Write>(to: &mut W, bytes: &[u8]) -> Call
     ensures within { Within (length bytes.now) result.step }
     ensures ended { is_again result.step ≡ false }
 {
-    let mut turns = u64::MAX;
-    while turns > 0 {
+    for _ in 0..u64::MAX {
         let moved = to.write(bytes);
         let call = called(moved, bytes);
         if !is_again(call.step) {
             return call;
         }
-        turns -= 1;
     }
     failed(io::Error::from_raw_os_error(EINTR))
 }

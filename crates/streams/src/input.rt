@@ -7,7 +7,7 @@ ghost use Rattle.streams.specs.Supplied.{Refilled, spent, supplied};
 
 use crate::calls::{Call, Step};
 use crate::{CanRead, calls, message};
-use lines::input::{Reader, begin, cut, last};
+use lines::input::Reader;
 
 // A reader with nothing to come and nothing held.
 fn spent() -> Reader
@@ -32,30 +32,25 @@ fn supplied(r: Reader, s: Step) -> Reader
         Step::Took(n) => Reader {
             at: 0,
             end: n,
-            filled: r.filled,
-            long: r.long,
             whole: false,
             over: false,
+            ..r
         },
         Step::Nothing => Reader {
             at: 0,
             end: 0,
-            filled: r.filled,
-            long: r.long,
             whole: false,
             over: true,
+            ..r
         },
-        Step::Again => spent(),
-        Step::Wait => spent(),
-        Step::Failed => spent(),
+        _ => spent(),
     }
 }
 
 // A read that failed is told of on standard error.
 fn told(rt: &impl Eprint, call: Call) {
     match call.step {
-        Step::Took(_) => {}
-        Step::Nothing => {}
+        Step::Took(_) | Step::Nothing => {}
         _ => message::failed(rt, "standard input", call.error),
     }
 }
@@ -67,10 +62,7 @@ fn refilled(rt: &impl CanRead, r: Reader, block: &mut [u8]) -> Reader
     ensures block_after { r.at < r.end → uncut result block.new ≡ uncut r block.old }
     ensures refilled { Refilled r result }
 {
-    if r.at < r.end {
-        return r;
-    }
-    if r.over {
+    if r.at < r.end || r.over {
         return r;
     }
     let call = calls::read(rt, block);
@@ -80,23 +72,21 @@ fn refilled(rt: &impl CanRead, r: Reader, block: &mut [u8]) -> Reader
 
 // The rest of a line whose newline is not in the block: it is read on until there is one or the input is over. `whole` says whether there is a
 // line; there is none of a line that was half read when a read failed.
-// A proved loop has to end, and nothing says that a line does. So the turns are counted down from a number that no line uses up.
+// A proved loop has to end, and nothing says that a line does. So there are as many turns as no line uses up.
 pub fn finish(rt: &impl CanRead, r: Reader, block: &mut [u8], line: &mut [u8]) -> Reader
     requires { Held r block.old line.old }
     ensures { Held result block.new line.new }
 {
     let mut t = r;
-    let mut turns = u64::MAX;
-    while turns > 0 {
+    for _ in 0..u64::MAX {
         t = refilled(rt, t, block);
         if t.at == t.end {
-            return last(t);
+            return t.last();
         }
-        t = cut(t, block, line);
+        t = t.cut(block, line);
         if t.whole {
             return t;
         }
-        turns -= 1;
     }
     t
 }
@@ -106,7 +96,7 @@ pub fn next(rt: &impl CanRead, r: Reader, block: &mut [u8], line: &mut [u8]) -> 
     requires { Held r block.old line.old }
     ensures { Held result block.new line.new }
 {
-    let t = begin(r, block, line);
+    let t = r.begin(block, line);
     if t.whole {
         return t;
     }

@@ -1,6 +1,5 @@
 // Output of the programs. The first write that fails ends it: a message goes to standard error, and nothing more to standard output.
-// Each function takes and answers whether every write so far went through, so that no program goes on by mistake.
-ghost use Rattle.std.specs.Prelude.{◌≡◌, false, ltb};
+ghost use Rattle.std.specs.Prelude.{◌≡◌, true, false, ltb};
 
 use crate::calls::Step;
 use crate::room::text_to;
@@ -11,6 +10,7 @@ use std::rt::Env;
 // Writes all of the bytes; whether it could.
 fn written(rt: &impl CanWrite, bytes: &[u8]) -> bool {
     let mut at: usize = 0;
+    // A while: a write may take fewer bytes than it was handed.
     while at < bytes.len() {
         let call = calls::write(rt, &bytes[at..]);
         match call.step {
@@ -26,31 +26,43 @@ fn written(rt: &impl CanWrite, bytes: &[u8]) -> bool {
     true
 }
 
-pub fn put(rt: &impl CanWrite, ok: bool, bytes: &[u8]) -> bool
-    ensures { ok ≡ false → result ≡ false }
-{
-    if ok {
-        return written(rt, bytes);
+// A program's standard output, and whether every write so far went through.
+#[derive(Drop)]
+pub struct Output<'a, R> {
+    rt: &'a R,
+    pub ok: bool,
+}
+
+impl<'a, R: CanWrite> Output<'a, R> {
+    pub fn new(rt: &'a R) -> Output<'a, R>
+        ensures { result.ok ≡ true }
+    {
+        Output { rt, ok: true }
     }
-    false
-}
 
-pub fn put_decimal(rt: &impl CanWrite, ok: bool, n: u64) -> bool
-    ensures { ok ≡ false → result ≡ false }
-{
-    let mut room = [0u8; 20];
-    let k = text_to(&mut room, format_args!("{n}"));
-    put(rt, ok, &room[..k])
-}
+    pub fn put(&mut self, bytes: &[u8])
+        ensures { self.old.ok ≡ false → self.new.ok ≡ false }
+    {
+        self.ok = self.ok && written(self.rt, bytes);
+    }
 
-// A width of 0 counts as 1, and one above 16 as 16.
-pub fn put_hex(rt: &impl CanWrite, ok: bool, n: u64, width: usize) -> bool
-    ensures { ok ≡ false → result ≡ false }
-{
-    let mut room = [0u8; 16];
-    let width = width.min(room.len());
-    let k = text_to(&mut room, format_args!("{n:0width$x}"));
-    put(rt, ok, &room[..k])
+    pub fn put_decimal(&mut self, n: u64)
+        ensures { self.old.ok ≡ false → self.new.ok ≡ false }
+    {
+        let mut room = [0u8; 20];
+        let k = text_to(&mut room, format_args!("{n}"));
+        self.put(&room[..k]);
+    }
+
+    // A width of 0 counts as 1, and one above 16 as 16.
+    pub fn put_hex(&mut self, n: u64, width: usize)
+        ensures { self.old.ok ≡ false → self.new.ok ≡ false }
+    {
+        let mut room = [0u8; 16];
+        let width = width.min(room.len());
+        let k = text_to(&mut room, format_args!("{n:0width$x}"));
+        self.put(&room[..k]);
+    }
 }
 
 // The words that a program was started with, its name among them: as many as there are before the first that is not there. No contract of the
@@ -71,9 +83,9 @@ pub fn words(rt: &impl Env) -> usize {
 pub fn usage(rt: &impl Eprint, words: usize, text: &[u8]) -> bool
     ensures { result ≡ ltb 1 words }
 {
-    if words <= 1 {
-        return false;
+    let asked = 1 < words;
+    if asked {
+        message::tell(rt, text);
     }
-    message::tell(rt, text);
-    true
+    asked
 }

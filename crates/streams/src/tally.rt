@@ -1,28 +1,16 @@
 // What a program counts that holds its answers to a list: each line that has another answer is named, and at the end both are counted.
-ghost use Rattle.std.specs.Prelude.{◌≡◌, false};
+ghost use Rattle.std.specs.Prelude.{◌≡◌, true, false};
 ghost use Rattle.streams.specs.Tally.{started, one_more, passed_over, Compared};
 
 use crate::CanWrite;
-use crate::output::{put, put_decimal};
+use crate::output::Output;
 
-// The lines read, the answers compared, those that differ, and whether every write so far went through.
+// The lines read, the answers compared, and those that differ.
 #[derive(Clone, Copy)]
 pub struct Tally {
     pub line: u64,
     pub compared: u64,
     pub differ: u64,
-    pub ok: bool,
-}
-
-pub fn start() -> Tally
-    ensures { result ≡ started }
-{
-    Tally {
-        line: 0,
-        compared: 0,
-        differ: 0,
-        ok: true,
-    }
 }
 
 // One more, up to a number that no list reaches.
@@ -33,54 +21,66 @@ fn more(n: u64) -> u64
 }
 
 // Names a line that has another answer.
-fn name(rt: &impl CanWrite, ok: bool, line: u64) -> bool
-    ensures { ok ≡ false → result ≡ false }
+fn name<R: CanWrite>(out: &mut Output<'_, R>, line: u64)
+    ensures { out.old.ok ≡ false → out.new.ok ≡ false }
 {
-    let ok = put(rt, ok, b"line ");
-    let ok = put_decimal(rt, ok, line);
-    put(rt, ok, b" differs\n")
+    out.put(b"line ");
+    out.put_decimal(line);
+    out.put(b" differs\n");
 }
 
-// A line that says something, and expects no answer.
-pub fn passed_over(t: Tally) -> Tally
-    ensures { result ≡ passed_over t }
-{
-    Tally {
-        line: more(t.line),
-        compared: t.compared,
-        differ: t.differ,
-        ok: t.ok,
+impl Tally {
+    pub fn start() -> Tally
+        ensures { result ≡ started }
+    {
+        Tally {
+            line: 0,
+            compared: 0,
+            differ: 0,
+        }
     }
-}
 
-// A line whose answer is the expected one, or another.
-pub fn compared(rt: &impl CanWrite, t: Tally, same: bool) -> Tally
-    ensures { Compared t same result }
-{
-    let line = more(t.line);
-    if same {
-        return Tally {
+    // A line that says something, and expects no answer.
+    pub fn passed_over(self) -> Tally
+        ensures { result ≡ passed_over self }
+    {
+        Tally {
+            line: more(self.line),
+            ..self
+        }
+    }
+
+    // A line whose answer is the expected one, or another.
+    pub fn compared<R: CanWrite>(self, same: bool, out: &mut Output<'_, R>) -> Tally
+        ensures counts { Compared self same result }
+        ensures same_ok { same ≡ true → out.new.ok ≡ out.old.ok }
+        ensures failed { out.old.ok ≡ false → out.new.ok ≡ false }
+    {
+        let line = more(self.line);
+        let compared = more(self.compared);
+        if same {
+            return Tally {
+                line,
+                compared,
+                ..self
+            };
+        }
+        name(out, line);
+        Tally {
             line,
-            compared: more(t.compared),
-            differ: t.differ,
-            ok: t.ok,
-        };
+            compared,
+            differ: more(self.differ),
+        }
     }
-    Tally {
-        line,
-        compared: more(t.compared),
-        differ: more(t.differ),
-        ok: name(rt, t.ok, line),
-    }
-}
 
-// How many of what were compared, and how many differ; whether every write went through.
-pub fn report(rt: &impl CanWrite, t: Tally, what: &[u8]) -> bool
-    ensures { t.ok ≡ false → result ≡ false }
-{
-    let ok = put_decimal(rt, t.ok, t.compared);
-    let ok = put(rt, ok, what);
-    let ok = put(rt, ok, b" compared, ");
-    let ok = put_decimal(rt, ok, t.differ);
-    put(rt, ok, b" differ\n")
+    // How many of what were compared, and how many differ.
+    pub fn report<R: CanWrite>(self, what: &[u8], out: &mut Output<'_, R>)
+        ensures { out.old.ok ≡ false → out.new.ok ≡ false }
+    {
+        out.put_decimal(self.compared);
+        out.put(what);
+        out.put(b" compared, ");
+        out.put_decimal(self.differ);
+        out.put(b" differ\n");
+    }
 }

@@ -8,6 +8,10 @@ use borrow.Author.Tests.{ne_eqb}
 use lib.Dec.{T}
 use lib.ListN.{length, get_or, drop, length-drop}
 use lib.Seq.{drop-drop}
+use Rattle.std.specs.Prelude as std
+use Rattle.std.specs.Prelude.{Err}
+use Rattle.base.specs.declared.refusal.Refusal.{Refusal}
+use Rattle.base.specs.declared.refusal.Refusal.TheVariants.{Unsuited}
 use Rattle.number.specs.Number.{all_bytes, number_at, bytes_of}
 use Rattle.text.specs.Text.{Text}
 use Rattle.text.specs.Read.{◌>>=◌, read_number, read_counted, read_text}
@@ -21,8 +25,6 @@ use Rattle.frame.proofs.Reading.{bind-some, map_read, map-inv, reads_first, read
 use Rattle.frame.proofs.ValueNodes.{value_there, value-content, value-kind}
 use Rattle.frame.proofs.SchemaNodes.{schema-opened}
 use Rattle.buffer.specs.Built.{Built, Wrote}
-use Rattle.buffer.specs.declared.Answer.{Answer}
-use Rattle.buffer.specs.declared.Answer.TheVariants.{Refused}
 use Rattle.types.specs.Types.{validate_symbol, resolve_enum}
 use Rattle.types.specs.Contract.{encoded, on_read, on_both}
 use Rattle.symbols.specs.Search.{resolve_enum_at}
@@ -51,7 +53,7 @@ module _ (ds : ℕ) (s : List ℕ) (p : Reads (read_schema ds s)) (h : get_or s 
   unfolding Reads
   schema-symbols = let y = enum-schema ds s p h in ((y.ss, y.d), (y.r, y.symbols))
 
-  module _ (d : ℕ) (v : List ℕ) (w : Value) (r : List ℕ) (e : read_value d v ≡ some (w, r)) (o : List ℕ) (a : Answer) where
+  module _ (d : ℕ) (v : List ℕ) (w : Value) (r : List ℕ) (e : read_value d v ≡ some (w, r)) (o : List ℕ) (a : std.Result ℕ Refusal) where
     -- a value with a symbol
     pub enum-way : (t : Text) → ((ss : List Text) (q : Option Text) → resolve_enum ss q w ≡ validate_symbol ss q t) → Wrote (on_read (λ e. encoded (validate_symbol e.0 e.1 t)) (read_symbols (drop 1 s))) o a
         → Wrote (on_both (λ t w. encoded (resolve_enum_at t w)) (read_schema ds s) (read_value d v)) o a
@@ -62,12 +64,12 @@ module _ (ds : ℕ) (s : List ℕ) (p : Reads (read_schema ds s)) (h : get_or s 
 
   -- a value of another kind
   pub enum-other : (d : ℕ) (v : List ℕ) (o : List ℕ) → Reads (read_value d v) → T (all_bytes v) → (get_or v 0 0 ≡ Kind.Enum → ⊥) → (get_or v 0 0 ≡ Kind.String → ⊥)
-      → Wrote (on_both (λ t w. encoded (resolve_enum_at t w)) (read_schema ds s) (read_value d v)) o (Refused 6)
+      → Wrote (on_both (λ t w. encoded (resolve_enum_at t w)) (read_schema ds s) (read_value d v)) o (Err Unsuited)
   unfolding on_read on_both resolve_enum_at resolve_enum encoded Reads
   enum-other d v o q b f g =
       let y = enum-schema ds s p h in
       let k : kind_of q.0 ≡ get_or v 0 0 = value-kind d v b q.0 q.1.0 q.1.1 in
-      wrote-stop _ o 6 (rw y.schema (rw q.1.1 (rw (k, ne_eqb (get_or v 0 0) 12 f, ne_eqb (get_or v 0 0) 7 g))))
+      wrote-stop _ o Unsuited (rw y.schema (rw q.1.1 (rw (k, ne_eqb (get_or v 0 0) 12 f, ne_eqb (get_or v 0 0) 7 g))))
 
 pub string-symbol : (t : Text) (ss : List Text) (q : Option Text) → resolve_enum ss q (Value.Octets Kind.String t) ≡ validate_symbol ss q t
 unfolding resolve_enum kind_of octets

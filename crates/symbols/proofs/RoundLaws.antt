@@ -8,7 +8,9 @@ use native.Mathlib.Omega.{arith}
 use borrow.Author.Tests.{ne_eqb}
 use lib.ListN.{length, get_or, drop, length-drop}
 use lib.Seq.{drop-drop, get_or-drop}
+use Rattle.std.specs.Prelude.{Ok, Err}
 use Rattle.base.specs.Base.{ok, stop}
+use Rattle.base.specs.declared.refusal.Refusal.TheVariants.{SymbolUnknown}
 use Rattle.number.specs.Number.{bytes_of}
 use Rattle.text.specs.Text.{Text}
 use Rattle.text.specs.Read.{Read, ◌>>=◌, read_counted, read_text}
@@ -22,7 +24,6 @@ use Rattle.frame.specs.SchemaFrame.{read_symbols}
 use Rattle.frame.specs.Checks.{Spans}
 use Rattle.frame.proofs.Reading.{read-rest, bind_inv, map_read, reads_first, not-both, option-zero, option-one, option-long, option-is-one}
 use Rattle.buffer.specs.Built.{Built, Wrote}
-use Rattle.buffer.specs.declared.Answer.TheVariants.{Accepted, Refused}
 use Rattle.types.specs.Types.{Outcome, position, enum_at, or_default, validate_symbol}
 use Rattle.types.specs.Contract.{encoded, on_read}
 use Rattle.types.proofs.NodeLaws.{wrote-ok, wrote-stop}
@@ -228,18 +229,18 @@ module _ (s t : List ℕ) (p : Reads (read_symbols s)) where
   -- the answers: a symbol that is there, a default that is, and neither
   module _ (o : List ℕ) where
     pub symbol-found : (i n : ℕ) → Symbol i ≡ place_in t (read_symbols s) → Built (Kind.Enum ∷ (bytes_of 4 i ++ write_text t)) o n
-        → Wrote (on_read (λ e. encoded (validate_symbol e.0 e.1 t)) (read_symbols s)) o (Accepted n)
+        → Wrote (on_read (λ e. encoded (validate_symbol e.0 e.1 t)) (read_symbols s)) o (Ok n)
     unfolding encoded encode_value enum_there
     symbol-found i n e w = wrote-ok _ _ o n (placed-is (Symbol i) e) w
 
     pub default-found : (i n : ℕ) (x : Text) → Default i ≡ place_in t (read_symbols s) → default_in (read_symbols s) ≡ some x → Built (Kind.Enum ∷ (bytes_of 4 i ++ write_text x)) o n
-        → Wrote (on_read (λ e. encoded (validate_symbol e.0 e.1 t)) (read_symbols s)) o (Accepted n)
+        → Wrote (on_read (λ e. encoded (validate_symbol e.0 e.1 t)) (read_symbols s)) o (Ok n)
     unfolding encoded encode_value enum_there default_enum
     default-found i n x e g w = wrote-ok _ _ o n (placed-is (Default i) e ∙ ap (λ d. encoded (enum_there t d (Default i))) g) w
 
-    pub none_found : Nowhere ≡ place_in t (read_symbols s) → Wrote (on_read (λ e. encoded (validate_symbol e.0 e.1 t)) (read_symbols s)) o (Refused 15)
+    pub none_found : Nowhere ≡ place_in t (read_symbols s) → Wrote (on_read (λ e. encoded (validate_symbol e.0 e.1 t)) (read_symbols s)) o (Err SymbolUnknown)
     unfolding encoded enum_there
-    none_found e = wrote-stop _ o 15 (placed-is Nowhere e)
+    none_found e = wrote-stop _ o SymbolUnknown (placed-is Nowhere e)
 
 -- ---- the default's text
 

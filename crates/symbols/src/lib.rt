@@ -15,8 +15,7 @@ ghost use Rattle.types.specs.Types.{validate_symbol};
 ghost use Rattle.types.specs.Contract.{encoded, on_read, on_both};
 ghost use Rattle.symbols.specs.Search.{place_in, sought_in, placed, default_in, Defaulted, resolve_enum_at};
 
-use base::refusal;
-use buffer::Answer;
+use base::refusal::Refusal;
 use frame::{kind, texts_len};
 use octets::content;
 
@@ -34,19 +33,20 @@ fn is_sought(s: &[u8], t: &[u8], from: usize, word: &[u8]) -> bool
     ensures { result ≡ same word.now (sought_in s.now t.now from) }
 {
     if from == 0 {
-        return text::same(word, t);
+        text::same(word, t)
+    } else {
+        text::same(word, text::content(&s[from..]))
     }
-    text::same(word, text::content(&s[from..]))
 }
 
 // What a round has found at a place.
 fn hit(from: usize, i: u16) -> Place
     ensures { result ≡ placed from i }
 {
-    if from == 0 {
-        return Place::Symbol(i);
+    match from {
+        0 => Place::Symbol(i),
+        _ => Place::Default(i),
     }
-    Place::Default(i)
 }
 
 // The first place of a symbol among the schema's or, where it stands nowhere, that of the default.
@@ -54,29 +54,23 @@ fn position(s: &[u8], t: &[u8]) -> Place
     requires { Reads (read_symbols s.now) }
     ensures { result ≡ place_in t.now (read_symbols s.now) }
 {
-    let mut from: usize = 0;
-    let found = 'search: loop {
-        let mut left = number::read2(s, 0);
-        let mut at: usize = 2;
-        let mut i: u16 = 0;
-        while 0 < left {
+    let count = number::read2(s, 0);
+    let mut from = 0;
+    // A loop: there is a second round only where the first one passed the symbols and found a default behind them.
+    'search: loop {
+        let mut at = 2;
+        for i in 0..count {
             let word = text::content(&s[at..]);
             if is_sought(s, t, from, word) {
                 break 'search hit(from, i);
             }
             at += 2 + word.len();
-            i += 1;
-            left -= 1;
         }
-        if 0 < from {
-            break Place::Nowhere;
-        }
-        if s[at] == 0 {
+        if 0 < from || s[at] == 0 {
             break Place::Nowhere;
         }
         from = at + 1;
-    };
-    found
+    }
 }
 
 // An Enum with its index and symbol.
@@ -86,7 +80,7 @@ fn put_enum(out: &mut [u8], i: u16, t: &[u8]) -> usize
 {
     let n = t.len();
     let h = [
-        12,
+        kind::ENUM,
         0,
         0,
         (i / 256) as u8,
@@ -108,27 +102,31 @@ fn default_text(s: &[u8]) -> &[u8]
 }
 
 // A symbol at its place, or else the default.
-fn enum_of(s: &[u8], t: &[u8], out: &mut [u8]) -> Answer
+fn enum_of(s: &[u8], t: &[u8], out: &mut [u8]) -> Result<usize, Refusal>
     requires { Reads (read_symbols s.now) × (length t.now < 65536) }
     ensures { Wrote (on_read (λ e. encoded (validate_symbol e.0 e.1 t.now)) (read_symbols s.now)) out.new result }
 {
     match position(s, t) {
-        Place::Symbol(i) => Answer::Accepted(put_enum(out, i, t)),
-        Place::Default(i) => Answer::Accepted(put_enum(out, i, default_text(s))),
-        Place::Nowhere => Answer::Refused(refusal::SYMBOL_UNKNOWN),
+        Place::Symbol(i) => Ok(put_enum(out, i, t)),
+        Place::Default(i) => Ok(put_enum(out, i, default_text(s))),
+        Place::Nowhere => Err(Refusal::SymbolUnknown),
     }
 }
 
 // s starts at the schema's node.
-pub fn resolve_enum(s: &[u8], ds: usize, v: &[u8], out: &mut [u8], depth: usize) -> Answer
+pub fn resolve_enum(
+    s: &[u8],
+    ds: usize,
+    v: &[u8],
+    out: &mut [u8],
+    depth: usize,
+) -> Result<usize, Refusal>
     requires { Reads (read_schema ds s.now) × (get_or s.now 0 0 ≡ Kind.Enum) × Reads (read_value depth v.now) }
     ensures { Wrote (on_both (λ t w. encoded (resolve_enum_at t w)) (read_schema ds s.now) (read_value depth v.now)) out.new result }
 {
-    if v[0] == kind::ENUM {
-        return enum_of(&s[1..], text::content(&v[5..]), out);
+    match v[0] {
+        kind::ENUM => enum_of(&s[1..], text::content(&v[5..]), out),
+        kind::STRING => enum_of(&s[1..], content(v), out),
+        _ => Err(Refusal::Unsuited),
     }
-    if v[0] == kind::STRING {
-        return enum_of(&s[1..], content(v), out);
-    }
-    Answer::Refused(refusal::UNSUITED)
 }

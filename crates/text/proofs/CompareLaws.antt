@@ -1,5 +1,5 @@
 -- The number of byte pairs that a comparison looks at is the one that Q-3 asks for, and there is one for any two texts.
-use Prim.Native.Nat.{ℕ, suc, ◌-◌, ◌≤◌, ◌<◌}
+use Prim.Native.Nat.{ℕ, suc, ◌+◌, ◌-◌, ◌≤◌, ◌<◌}
 use mathlib.Core.Path.{◌≡◌, refl, sym, ap, ◌∙◌, subst}
 use mathlib.Core.List.{[], ◌∷◌, ◌++◌, reverse, reverse_aux-append, reverse_aux-eq}
 use mathlib.Core.Bool.{Bool, true, false}
@@ -89,30 +89,36 @@ module _ (a b : Text) where
   pub lengths_differ : (length a ≡ length b → ⊥) → Answers a b false 0
   lengths_differ h = (≢→same a b (λ e. h (ap length e)), Looked→looked (unequal_lengths h))
 
-  pub nothing-behind : length a ≡ length b → drop (length a) a ≡ drop (length a) b
-  nothing-behind l = rw (drop_of_length-le a {i = length a} (omega arith), drop_of_length-le b {i = length a} (omega arith))
+  pub nothing-behind : length a ≡ length b → drop (length a - 0) a ≡ drop (length a - 0) b
+  nothing-behind l =
+      let q : length a - 0 ≡ length a = omega arith in
+      rw (q, drop_of_length-le a {i = length a} (omega arith), drop_of_length-le b {i = length a} (omega arith)) refl
 
-  pub none-differs : (left : ℕ) → left ≤ 0 → drop left a ≡ drop left b → Answers a b true (length a)
-  none-differs left h e =
-      let q : left ≡ 0 = omega arith in
-      let f : a ≡ b = rw q at e in
-      (rw (sym f) (sym (same_refl a)), Looked→looked (no_difference f))
+  -- the last k bytes are the same
+  module _ (k : ℕ) (e : drop (length a - k) a ≡ drop (length a - k) b) where
+    pub none-differs : length a ≤ k → Answers a b true (length a)
+    none-differs h =
+        let q : length a - k ≡ 0 = omega arith in
+        let f : a ≡ b = rw q at e in
+        (rw (sym f) (sym (same_refl a)), Looked→looked (no_difference f))
 
-  -- from `left` on both have the same bytes, and the pair before is looked at next
-  module _ (left : ℕ) (l : length a ≡ length b) (g : 0 < left) (h : left ≤ length a) (e : drop left a ≡ drop left b) where
-    abbrev i : ℕ
-    i = left - 1
+    -- and the pair before them is looked at next
+    module _ (l : length a ≡ length b) (g : k < length a) where
+      abbrev i : ℕ
+      i = length a - 1 - k
 
-    behind : drop (suc i) a ≡ drop (suc i) b
-    behind = let q : suc (left - 1) ≡ left = omega arith in rw q e
+      behind : drop (suc i) a ≡ drop (suc i) b
+      behind = let q : suc (length a - 1 - k) ≡ length a - k = omega arith in rw q e
 
-    pub pair-differs : (get_or a i 0 ≡ get_or b i 0 → ⊥) → Answers a b false (length a - i)
-    pair-differs f =
-        let p = length-take-le i a (omega arith) ∙ sym (length-take-le i b (omega arith)) in
-        let q : suc (length (drop (suc i) a)) ≡ length a - i = omega (arith, length-drop (suc i) a) in
-        let s : b ≡ take i b ++ get_or b i 0 ∷ drop (suc i) a = split_at b i 0 (omega arith) ∙ ap (λ (t : Text). take i b ++ get_or b i 0 ∷ t) (sym behind) in
-        let d = first_difference (take i a) (take i b) (drop (suc i) a) (get_or a i 0) (get_or b i 0) (split_at a i 0 (omega arith)) s p f in
-        (≢→same a b (λ z. f (ap (λ (t : Text). get_or t i 0) z)), sym q ∙ Looked→looked d)
+      pub pair-differs : (get_or a i 0 ≡ get_or b i 0 → ⊥) → Answers a b false (k + 1)
+      pair-differs f =
+          let p = length-take-le i a (omega arith) ∙ sym (length-take-le i b (omega arith)) in
+          let q : suc (length (drop (suc i) a)) ≡ k + 1 = omega (arith, length-drop (suc i) a) in
+          let s : b ≡ take i b ++ get_or b i 0 ∷ drop (suc i) a = split_at b i 0 (omega arith) ∙ ap (λ (t : Text). take i b ++ get_or b i 0 ∷ t) (sym behind) in
+          let d = first_difference (take i a) (take i b) (drop (suc i) a) (get_or a i 0) (get_or b i 0) (split_at a i 0 (omega arith)) s p f in
+          (≢→same a b (λ z. f (ap (λ (t : Text). get_or t i 0) z)), sym q ∙ Looked→looked d)
 
-    pub pair_same : get_or a i 0 ≡ get_or b i 0 → drop i a ≡ drop i b
-    pair_same f = rw (drop-cons a i 0 (omega arith), drop-cons b i 0 (omega arith), f, behind)
+      pub pair_same : get_or a i 0 ≡ get_or b i 0 → drop (length a - (k + 1)) a ≡ drop (length a - (k + 1)) b
+      pair_same f =
+          let q : length a - (k + 1) ≡ i = omega arith in
+          rw (q, drop-cons a i 0 (omega arith), drop-cons b i 0 (omega arith), f, behind)

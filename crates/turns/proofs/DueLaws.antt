@@ -11,40 +11,41 @@ use borrow.Author.Tests.{eqb-true}
 use Rattle.number.specs.Number.{number_at}
 use Rattle.frame.specs.SchemaFrame.{read_schema}
 use Rattle.avro.specs.Union.{unnamed_kind, named_kind, table_lookup}
-use Rattle.find.specs.declared.Found.{Found}
+use Rattle.std.specs.Prelude as std
+use Rattle.std.specs.Prelude.{Some, None}
 use Rattle.variants.specs.Ways.{Among, Numbers, OnRead, VariantAt, base_at, base_read, count_of, found_of, is_at, kind_table, named_table, wanted_of}
 use Rattle.variants.specs.declared.Positions.{Positions}
-use Rattle.variants.specs.declared.Wanted.{Wanted}
 use Rattle.variants.proofs.UnionReading.{on_read}
 use Rattle.turns.specs.declared.Due.{Due}
+use Rattle.turns.specs.declared.Spot.{Spot}
 use Rattle.turns.specs.declared.Turn.{Turn}
 use Rattle.turns.specs.declared.Way.{Way}
 use Rattle.turns.specs.Turns.{UnionPart, Goes, NamedIs, NamedTells, Skipped, Skips, Splits, Tells, Tries, NoneLeft, Wants, position_at, tree_of}
 use Rattle.turns.proofs.PartLaws.{part_count, named-below, table_below, base_there}
 use Rattle.turns.proofs.Positions.{splits-all}
 
-pub found_at : (x : Option ℕ) (u : ℕ) → Found.At u ≡ found_of x → x ≡ some u
+pub found_at : (x : Option ℕ) (u : ℕ) → Some u ≡ found_of x → x ≡ some u
 unfolding found_of
 found_at none u e = let z : ◌≡◌ {A = ℕ} 0 1 = cc in absurd (omega arith)
 found_at (some i) u e = let f : u ≡ i = cc in ap some (sym f)
 
-pub found_none : (x : Option ℕ) → Found.Nothing ≡ found_of x → x ≡ none
+pub found_none : (x : Option ℕ) → None ≡ found_of x → x ≡ none
 unfolding found_of
 found_none none e = refl
 found_none (some i) e = let z : ◌≡◌ {A = ℕ} 0 1 = cc in absurd (omega arith)
 
-is-at-found : (f : Found) (i : ℕ) → is_at f i ≡ true → f ≡ Found.At i
+is-at-found : (f : std.Option ℕ) (i : ℕ) → is_at f i ≡ true → f ≡ Some i
 unfolding is_at
-is-at-found (Found.At u) i e = ap Found.At (eqb-true u i e)
-is-at-found Found.Nothing i e = let z : ◌≡◌ {A = ℕ} 0 1 = cc in absurd (omega arith)
+is-at-found (Some u) i e = ap Some (eqb-true u i e)
+is-at-found None i e = let z : ◌≡◌ {A = ℕ} 0 1 = cc in absurd (omega arith)
 
 -- ---- what the choice goes by
 
-module _ (d : ℕ) (s : List ℕ) (q : UnionPart d s) (kind : ℕ) (x : Wanted) (e : wanted_of x ≡ unnamed_kind kind) (table : Found) (h : OnRead (λ t. table ≡ found_of (table_lookup (kind_table t) (wanted_of x))) (read_schema d s)) where
+module _ (d : ℕ) (s : List ℕ) (q : UnionPart d s) (kind : ℕ) (x : std.Option ℕ) (e : wanted_of x ≡ unnamed_kind kind) (table : std.Option ℕ) (h : OnRead (λ t. table ≡ found_of (table_lookup (kind_table t) (wanted_of x))) (read_schema d s)) where
   table_is : table ≡ found_of (table_lookup (kind_table q.schema.tree) (unnamed_kind kind))
   table_is = on_read (λ t. table ≡ found_of (table_lookup (kind_table t) (wanted_of x))) _ q.schema.tree q.schema.rest q.schema.reads h ∙ ap (λ k. found_of (table_lookup (kind_table q.schema.tree) k)) e
 
-  pub goes-unnamed : (y : Wanted) → wanted_of y ≡ named_kind kind → y ≡ Wanted.Any → (way : Way) → way ≡ record { table = table; kind = 0; at = 0; count = 0; before = 0; rises = true } → (g : Goes d s way) × (g.kind ≡ kind)
+  pub goes-unnamed : (y : std.Option ℕ) → wanted_of y ≡ named_kind kind → y ≡ None → (way : Way) → way ≡ record { table = table; kind = 0; at = 0; count = 0; before = 0; rises = true } → (g : Goes d s way) × (g.kind ≡ kind)
   unfolding Wants wanted_of
   goes-unnamed y f z way w = subst (λ m. (g : Goes d s m) × (g.kind ≡ kind)) (sym w) (
     record {
@@ -59,7 +60,7 @@ module _ (d : ℕ) (s : List ℕ) (q : UnionPart d s) (kind : ℕ) (x : Wanted) 
     refl,
   )
 
-  pub goes-named : (y : Wanted) → wanted_of y ≡ named_kind kind → (k : ℕ) → y ≡ Wanted.Kind k → (p : Positions) → OnRead (λ t. Numbers s (named_table t) p) (read_schema d s) → (b : ℕ) (r : Bool) → Splits s p.at p.count table b
+  pub goes-named : (y : std.Option ℕ) → wanted_of y ≡ named_kind kind → (k : ℕ) → y ≡ Some k → (p : Positions) → OnRead (λ t. Numbers s (named_table t) p) (read_schema d s) → (b : ℕ) (r : Bool) → Splits s p.at p.count table b
       → (way : Way) → way ≡ record { table = table; kind = k; at = p.at; count = p.count; before = b; rises = r } → (g : Goes d s way) × (g.kind ≡ kind)
   unfolding Wants wanted_of
   goes-named y f k z p n b r c way w = subst (λ m. (g : Goes d s m) × (g.kind ≡ kind)) (sym w) (
@@ -92,7 +93,7 @@ module _ {d : ℕ} {s : List ℕ} {way : Way} (g : Goes d s way) where
       none_of : (named_kind g.kind ≡ none) × (g.named ≡ []) → get_or g.named j 0 < count_of (tree_of g)
       none_of e = absurd (omega (arith, h, g.numbers.counted, ap length e.1))
 
-  pub table-in : (u : ℕ) → way.table ≡ Found.At u → u < count_of (tree_of g)
+  pub table-in : (u : ℕ) → way.table ≡ Some u → u < count_of (tree_of g)
   table-in u e = table_below d s g.part (unnamed_kind g.kind) u (found_at _ u (sym e ∙ g.table))
 
   pub position-is : (i j : ℕ) → j < way.count → i ≡ position_at s way.at j → get_or g.named j 0 ≡ i
@@ -103,40 +104,40 @@ module _ {d : ℕ} {s : List ℕ} {way : Way} (g : Goes d s way) where
 
   -- ---- a named position
 
-  module _ (j end : ℕ) (skip : Found) (c : end ≤ way.count) where
-    pub named_end : (i at : ℕ) → VariantAt d s i at → end ≤ j → NamedTells g j end skip (Due.Not i at)
+  module _ (j end : ℕ) (skip : std.Option ℕ) (c : end ≤ way.count) where
+    pub named_end : (o : Spot) → VariantAt d s o.position o.at → end ≤ j → NamedTells g j end skip (Due.Not o)
     unfolding NamedTells
-    named_end i at p h = (p, λ l. absurd (omega arith))
+    named_end o p h = (p, λ l. absurd (omega arith))
 
     module _ (h : j < end) (n : ℕ) (e : n ≡ position_at s way.at j) where
-      pub named-skip : (i at : ℕ) → VariantAt d s i at → is_at skip n ≡ true → NamedTells g j end skip (Due.Not i at)
+      pub named-skip : (o : Spot) → VariantAt d s o.position o.at → is_at skip n ≡ true → NamedTells g j end skip (Due.Not o)
       unfolding NamedTells
-      named-skip i at p f = (p, λ l. inr (is-at-found skip n f ∙ ap Found.At (sym (position-is n j (omega arith) e))))
+      named-skip o p f = (p, λ l. inr (is-at-found skip n f ∙ ap Some (sym (position-is n j (omega arith) e))))
 
-      pub named-stood : (i at : ℕ) → VariantAt d s i at → Among s way.at j n true → NamedTells g j end skip (Due.Not i at)
+      pub named-stood : (o : Spot) → VariantAt d s o.position o.at → Among s way.at j n true → NamedTells g j end skip (Due.Not o)
       unfolding NamedTells Skipped Among
-      named-stood i at p f =
+      named-stood o p f =
           (p, λ l. inl (inr (f.0, (f.1.0, position-is n f.0 (omega (arith, f.1.0)) (sym f.1.1) ∙ sym (position-is n j (omega arith) e)))))
 
       place : n < count_of (tree_of g)
       place = rw (sym (position-is n j (omega arith) e)) (named_in j (omega arith))
 
       module _ (at b : ℕ) (p : VariantAt d s n at) (f : b ≡ base_read (read_schema (d - 1) (drop at s))) where
-        pub named_other : (b ≡ way.kind → ⊥) → NamedTells g j end skip (Due.Not n at)
+        pub named_other : (b ≡ way.kind → ⊥) → NamedTells g j end skip (Due.Not (record { position = n; at = at }))
         unfolding NamedTells Skipped
         named_other z = (p, λ l. inl (inl (λ y. z (sym (base-is n at b p place f) ∙ ap (base_at (tree_of g)) (sym (position-is n j (omega arith) e)) ∙ y))))
 
-        pub named-due : b ≡ way.kind → NamedTells g j end skip (Due.At n at)
+        pub named-due : b ≡ way.kind → NamedTells g j end skip (Due.At (record { position = n; at = at }))
         unfolding NamedTells NamedIs
         named-due z = (place, (p, (h, (position-is n j (omega arith) e, base-is n at b p place f ∙ z))))
 
   -- ---- the table's position, and any other
 
-  pub table_none : (i at : ℕ) → VariantAt d s i at → way.table ≡ Found.Nothing → Tells g Turn.Table (Due.Not i at)
+  pub table_none : (o : Spot) → VariantAt d s o.position o.at → way.table ≡ None → Tells g Turn.Table (Due.Not o)
   unfolding Tells Skips
-  table_none i at p e = (p, e)
+  table_none o p e = (p, e)
 
-  pub table-due : (u at : ℕ) → VariantAt d s u at → way.table ≡ Found.At u → Tells g Turn.Table (Due.At u at)
+  pub table-due : (u at : ℕ) → VariantAt d s u at → way.table ≡ Some u → Tells g Turn.Table (Due.At (record { position = u; at = at }))
   unfolding Tells Tries
   table-due u at p e = (table-in u e, (p, e))
 
@@ -148,28 +149,28 @@ module _ {d : ℕ} {s : List ℕ} {way : Way} (g : Goes d s way) where
     in_union : i < count_of (tree_of g)
     in_union = omega (arith, part_count d s g.part)
 
-    pub any-due : Tells g (Turn.Any i) (Due.At i at)
+    pub any-due : Tells g (Turn.Any i) (Due.At (record { position = i; at = at }))
     unfolding Tells Tries
     any-due = (in_union, (p, refl))
 
-    pub any-table : is_at way.table i ≡ true → Tells g (Turn.Any i) (Due.Not i at)
+    pub any-table : is_at way.table i ≡ true → Tells g (Turn.Any i) (Due.Not (record { position = i; at = at }))
     unfolding Tells Skips
     any-table f = (p, (in_union, inl (is-at-found way.table i f)))
 
-    pub any-named : (b : ℕ) → b ≡ base_read (read_schema (d - 1) (drop at s)) → b ≡ way.kind → Among s way.at way.count i true → Tells g (Turn.Any i) (Due.Not i at)
+    pub any-named : (b : ℕ) → b ≡ base_read (read_schema (d - 1) (drop at s)) → b ≡ way.kind → Among s way.at way.count i true → Tells g (Turn.Any i) (Due.Not (record { position = i; at = at }))
     unfolding Tells Skips Among NamedIs
     any-named b f z m = (p, (in_union, inr (m.0, (m.1.0, (position-is i m.0 m.1.0 (sym m.1.1), base-is i at b p in_union f ∙ z)))))
 
   -- ---- the turns of named positions
 
-  pub tells-before : (j : ℕ) (r : Due) → NamedTells g j way.before Found.Nothing r → Tells g (Turn.Before j) r
+  pub tells-before : (j : ℕ) (r : Due) → NamedTells g j way.before None r → Tells g (Turn.Before j) r
   unfolding NamedTells Tells Tries Skips
-  tells-before j (Due.At i at) h = h
-  tells-before j (Due.Not i at) h = (h.0, λ l. ⊎_elim (λ x. x) (λ e. let z : ◌≡◌ {A = ℕ} 0 1 = cc in absurd (omega arith)) (h.1 l))
+  tells-before j (Due.At o) h = h
+  tells-before j (Due.Not o) h = (h.0, λ l. ⊎_elim (λ x. x) (λ e. let z : ◌≡◌ {A = ℕ} 0 1 = cc in absurd (omega arith)) (h.1 l))
   tells-before j Due.Over h = absurd h
 
   pub tells-behind : (j : ℕ) (r : Due) → NamedTells g j way.count way.table r → Tells g (Turn.Behind j) r
   unfolding NamedTells Tells Tries Skips
-  tells-behind j (Due.At i at) h = h
-  tells-behind j (Due.Not i at) h = h
+  tells-behind j (Due.At o) h = h
+  tells-behind j (Due.Not o) h = h
   tells-behind j Due.Over h = absurd h

@@ -7,7 +7,8 @@ use native.Mathlib.Omega.{arith}
 use lib.Dec.{ltb}
 use borrow.Author.Tests.{ltb-true, ltb-false}
 use Rattle.number.specs.Number.{number_at}
-use Rattle.find.specs.declared.Found.{Found}
+use Rattle.std.specs.Prelude as std
+use Rattle.std.specs.Prelude.{Some}
 use Rattle.turns.specs.Turns.{position_at, PositionsRise, NotBelow, Splits}
 
 module _ (s : List ℕ) (at : ℕ) where
@@ -52,10 +53,10 @@ module _ (s : List ℕ) (at : ℕ) where
   unfolding NotBelow
   none-behind count u = (omega arith, λ k l m. absurd (omega arith))
 
-  pub splits-all : (count : ℕ) (table : Found) → Splits s at count table count
+  pub splits-all : (count : ℕ) (table : std.Option ℕ) → Splits s at count table count
   unfolding Splits
   splits-all count table = (omega arith, λ u e. none-behind count u)
 
-  pub splits-at : (count u n : ℕ) (table : Found) → table ≡ Found.At u → NotBelow s at count u n → Splits s at count table n
+  pub splits-at : (count u n : ℕ) (table : std.Option ℕ) → table ≡ Some u → NotBelow s at count u n → Splits s at count table n
   unfolding Splits NotBelow
   splits-at count u n table e h = (h.0, λ v f. let z : u ≡ v = cc in rw z at h)

@@ -4,7 +4,7 @@ use mathlib.Core.Path.{◌≡◌, refl, sym, ap, ◌∙◌, subst}
 use mathlib.Core.Logic.{⊎_elim}
 use mathlib.Core.List.{List, []}
 use mathlib.Core.Option.{Option, none, some}
-use mathlib.Core.Bool.{Bool, true, false, ◌&&◌, not}
+use mathlib.Core.Bool.{Bool, true, false, ◌&&◌}
 use native.Mathlib.Omega.{arith}
 use borrow.Author.Count.{below_more}
 use lib.Dec.{ltb, eqb}
@@ -14,7 +14,8 @@ use Rattle.base.specs.Base.{when◌then◌else◌, accepted}
 use Rattle.frame.specs.Tree.{Value}
 use Rattle.avro.specs.Union.{Trial, no_trial, choose, find_schema_with_known_schemata, must_be_tried, named_kind, named_variant, position_of, table_lookup, take_variant, takes, unnamed_kind, unnamed_variant}
 use Rattle.avro.proofs.UnionLaws.{none-some, take-accepted, take-untried, take-refused, first-none, first-at, named_none, named-at, named-any, named-is, takes-by, takes-other, chosen-both, chosen-trial}
-use Rattle.find.specs.declared.Found.{Found}
+use Rattle.std.specs.Prelude as std
+use Rattle.std.specs.Prelude.{Some, None}
 use Rattle.variants.specs.Ways.{base_at, count_of, kind_table, named_table, union_variants, variant_nth}
 use Rattle.turns.specs.declared.Turn.{Turn}
 use Rattle.turns.specs.declared.Way.{Way}
@@ -65,7 +66,7 @@ module _ {d : ℕ} {s : List ℕ} {way : Way} (g : Goes d s way) (w : Value) whe
   unfolding NoneTaken
   none_found n = named_none (trials_for g w) g.named way.kind (λ j l. n j (omega (arith, g.numbers.counted)))
 
-  untaken-fails : (u : ℕ) → Untaken g w → way.table ≡ Found.At u → resolves g w u ≡ false
+  untaken-fails : (u : ℕ) → Untaken g w → way.table ≡ Some u → resolves g w u ≡ false
   unfolding Untaken
   untaken-fails u h e = go (accepted (get_or (trials_for g w) u no_trial).outcome) refl
     where
@@ -73,11 +74,11 @@ module _ {d : ℕ} {s : List ℕ} {way : Way} (g : Goes d s way) (w : Value) whe
       go false p = refl
       go true p = none-some _ u h (ap (take_variant (trials_for g w)) (found_at _ u (sym e ∙ g.table)) ∙ take-accepted (trials_for g w) u p)
 
-  table_taken : (u : ℕ) → way.table ≡ Found.At u → (x : Option ℕ) → take_variant (trials_for g w) (some u) ≡ x → take_variant (trials_for g w) table ≡ x
+  table_taken : (u : ℕ) → way.table ≡ Some u → (x : Option ℕ) → take_variant (trials_for g w) (some u) ≡ x → take_variant (trials_for g w) table ≡ x
   unfolding table
   table_taken u e x f = ap (take_variant (trials_for g w)) (found_at _ u (sym e ∙ g.table)) ∙ f
 
-  table-untaken : way.table ≡ Found.Nothing → Untaken g w
+  table-untaken : way.table ≡ None → Untaken g w
   unfolding Untaken take_variant
   table-untaken e = ap (take_variant (trials_for g w)) (found_none _ (sym e ∙ g.table))
 
@@ -169,7 +170,7 @@ module _ {d : ℕ} {s : List ℕ} {way : Way} (g : Goes d s way) (w : Value) whe
   -- ---- the choice
 
   -- behind the table's position no named one comes before it
-  table-first : (u : ℕ) → NoneTaken g w way.before → way.table ≡ Found.At u → take_variant (trials_for g w) (some u) ≡ some u → chosen_for g w ≡ some u
+  table-first : (u : ℕ) → NoneTaken g w way.before → way.table ≡ Some u → take_variant (trials_for g w) (some u) ≡ some u → chosen_for g w ≡ some u
   unfolding choose position_of NoneTaken Splits NotBelow
   table-first u n e f = go (named_variant (trials_for g w) g.named (some way.kind)) refl
     where
@@ -192,15 +193,15 @@ module _ {d : ℕ} {s : List ℕ} {way : Way} (g : Goes d s way) (w : Value) whe
           pick false r = ap some (omega (arith, later i p, ltb-false u i r))
 
   -- a named position that is not behind the table's
-  named-first : (i : ℕ) → named_variant (trials_for g w) g.named (some way.kind) ≡ some i → sooner_than way.table i ≡ Found.Nothing → chosen_for g w ≡ some i
+  named-first : (i : ℕ) → named_variant (trials_for g w) g.named (some way.kind) ≡ some i → sooner_than way.table i ≡ None → chosen_for g w ≡ some i
   unfolding choose position_of sooner_than Untaken table
   named-first i p h = go way.table refl h
     where
-      go : (x : Found) → way.table ≡ x → sooner_than x i ≡ Found.Nothing → chosen_for g w ≡ some i
-      go Found.Nothing e f = chosen_by none (some i) (table-untaken e) p
-      go (Found.At u) e f = split (must_be_tried (get_or (trials_for g w) u no_trial).kind) (resolves g w u) refl refl
+      go : (x : std.Option ℕ) → way.table ≡ x → sooner_than x i ≡ None → chosen_for g w ≡ some i
+      go None e f = chosen_by none (some i) (table-untaken e) p
+      go (Some u) e f = split (must_be_tried (get_or (trials_for g w) u no_trial).kind) (resolves g w u) refl refl
         where
-          not-sooner : (b : Bool) → (when b then Found.At u else Found.Nothing) ≡ Found.Nothing → b ≡ false
+          not-sooner : (b : Bool) → (when b then Some u else None) ≡ None → b ≡ false
           not-sooner false y = refl
           not-sooner true y = let z : ◌≡◌ {A = ℕ} 0 1 = cc in absurd (omega arith)
 
@@ -212,7 +213,7 @@ module _ {d : ℕ} {s : List ℕ} {way : Way} (g : Goes d s way) (w : Value) whe
           split true true y z = here (take-accepted (trials_for g w) u z)
           split true false y z = chosen_by none (some i) (table_taken u e none (take-refused (trials_for g w) u y z)) p
 
-  pub accepted-chosen : (turn : Turn) (i : ℕ) → i < count_of (tree_of g) → ToldBefore g w turn → Tries g turn i → resolves g w i ≡ true → table_before way.table i turn ≡ Found.Nothing → chosen_for g w ≡ some i
+  pub accepted-chosen : (turn : Turn) (i : ℕ) → i < count_of (tree_of g) → ToldBefore g w turn → Tries g turn i → resolves g w i ≡ true → table_before way.table i turn ≡ None → chosen_for g w ≡ some i
   unfolding ToldBefore Tries table_before choose position_of Untaken table
   accepted-chosen (Turn.Before j) i h k z e f = named-first i (found_first j i (omega (arith, z.0, before-count g)) k.1 z.1 e) f
   accepted-chosen Turn.Table i h k z e f = table-first i k z (take-accepted (trials_for g w) i e)
@@ -239,19 +240,19 @@ module _ {d : ℕ} {s : List ℕ} {way : Way} (g : Goes d s way) (w : Value) whe
 
   -- ---- a named position behind the table's, whose variant resolves
 
-  pub beaten : (turn : Turn) (i u : ℕ) → ToldBefore g w turn → Tries g turn i → resolves g w i ≡ true → table_before way.table i turn ≡ Found.At u → Beaten g w u i
+  pub beaten : (turn : Turn) (i u : ℕ) → ToldBefore g w turn → Tries g turn i → resolves g w i ≡ true → table_before way.table i turn ≡ Some u → Beaten g w u i
   unfolding ToldBefore Tries table_before sooner_than
   beaten (Turn.Before j) i u k z e f =
       let b = go way.table refl f in
       record { named = found_first j i (omega (arith, z.0, before-count g)) k.1 z.1 e; table = b.0; behind = b.1 }
     where
-      go : (x : Found) → way.table ≡ x → sooner_than x i ≡ Found.At u → (way.table ≡ Found.At u) × (u < i)
-      go (Found.At m) e h = pick (ltb m i) refl h
+      go : (x : std.Option ℕ) → way.table ≡ x → sooner_than x i ≡ Some u → (way.table ≡ Some u) × (u < i)
+      go (Some m) e h = pick (ltb m i) refl h
         where
-          pick : (b : Bool) → ltb m i ≡ b → (when b then Found.At m else Found.Nothing) ≡ Found.At u → (way.table ≡ Found.At u) × (u < i)
+          pick : (b : Bool) → ltb m i ≡ b → (when b then Some m else None) ≡ Some u → (way.table ≡ Some u) × (u < i)
           pick true p q = let y : m ≡ u = cc in (e ∙ q, omega (arith, ltb-true m i p))
           pick false p q = let y : ◌≡◌ {A = ℕ} 0 1 = cc in absurd (omega arith)
-      go Found.Nothing e h = let y : ◌≡◌ {A = ℕ} 0 1 = cc in absurd (omega arith)
+      go None e h = let y : ◌≡◌ {A = ℕ} 0 1 = cc in absurd (omega arith)
   beaten Turn.Table i u k z e f = let y : ◌≡◌ {A = ℕ} 0 1 = cc in absurd (omega arith)
   beaten (Turn.Behind j) i u k z e f = let y : ◌≡◌ {A = ℕ} 0 1 = cc in absurd (omega arith)
   beaten (Turn.Any n) i u k z e f = let y : ◌≡◌ {A = ℕ} 0 1 = cc in absurd (omega arith)

@@ -1,12 +1,12 @@
 -- The turns of a union's variants: what a turn tries, what may be known when it comes, and what it says when it passes.
-use Rattle.std.specs.Prelude.{ℕ, ◌+◌, ◌-◌, ◌*◌, ◌^◌, ◌≤◌, ◌<◌, ◌≡◌, ◌⊎◌, List, [], Bool, false, not, ltb, get_or}
+use Rattle.std.specs.Prelude as std
+use Rattle.std.specs.Prelude.{ℕ, ◌+◌, ◌-◌, ◌*◌, ◌^◌, ◌≤◌, ◌<◌, ◌≡◌, ◌⊎◌, List, [], Bool, false, not, ltb, get_or, Some, None}
 use Rattle.std.proofs.Math.Option.{Option, none, some}
 use Rattle.base.specs.Base.{when◌then◌else◌, accepted}
 use Rattle.number.specs.Number.{number_at}
 use Rattle.frame.specs.Tree.{Value, Schema}
 use Rattle.avro.specs.Union.{Trial, no_trial, find_schema_with_known_schemata, unnamed_kind, named_kind, named_variant, table_lookup, take_variant, takes}
 use Rattle.avro.specs.Resolve.{trials}
-use Rattle.find.specs.declared.Found.{Found}
 use Rattle.variants.specs.Ways.{Numbers, Ready, VariantAt, base_at, count_of, found_of, kind_table, named_table, union_variants}
 use Rattle.turns.specs.declared.Due.{Due}
 use Rattle.turns.specs.declared.Turn.{Turn}
@@ -32,8 +32,8 @@ unfoldable pub NotBelow : List ℕ → ℕ → ℕ → ℕ → ℕ → Type 0
 NotBelow s at count u n = (n ≤ count) × ((j : ℕ) → n ≤ j → j < count → u ≤ position_at s at j)
 
 -- from the n-th on they are not below the table's, if it has one
-unfoldable pub Splits : List ℕ → ℕ → ℕ → Found → ℕ → Type 0
-Splits s at count table n = (n ≤ count) × ((u : ℕ) → table ≡ Found.At u → NotBelow s at count u n)
+unfoldable pub Splits : List ℕ → ℕ → ℕ → std.Option ℕ → ℕ → Type 0
+Splits s at count table n = (n ≤ count) × ((u : ℕ) → table ≡ Some u → NotBelow s at count u n)
 
 -- ---- what the choice goes by
 
@@ -66,13 +66,13 @@ module _ {depth : ℕ} {s : List ℕ} {way : Way} (g : Goes depth s way) where
 
   unfoldable pub Skips : Turn → Type 0
   Skips (Turn.Before j) = j < way.before → Skipped j
-  Skips Turn.Table = way.table ≡ Found.Nothing
-  Skips (Turn.Behind j) = j < way.count → Skipped j ⊎ (way.table ≡ Found.At (get_or g.named j 0))
-  Skips (Turn.Any i) = (i < count_of (tree_of g)) × ((way.table ≡ Found.At i) ⊎ ((j : ℕ) × ((j < way.count) × NamedIs j i)))
+  Skips Turn.Table = way.table ≡ None
+  Skips (Turn.Behind j) = j < way.count → Skipped j ⊎ (way.table ≡ Some (get_or g.named j 0))
+  Skips (Turn.Any i) = (i < count_of (tree_of g)) × ((way.table ≡ Some i) ⊎ ((j : ℕ) × ((j < way.count) × NamedIs j i)))
 
   unfoldable pub Tries : Turn → ℕ → Type 0
   Tries (Turn.Before j) i = (j < way.before) × NamedIs j i
-  Tries Turn.Table i = way.table ≡ Found.At i
+  Tries Turn.Table i = way.table ≡ Some i
   Tries (Turn.Behind j) i = (j < way.count) × NamedIs j i
   Tries (Turn.Any n) i = n ≡ i
 
@@ -83,15 +83,15 @@ module _ {depth : ℕ} {s : List ℕ} {way : Way} (g : Goes depth s way) where
   NoneLeft (Turn.Any i) = count_of (tree_of g) ≤ i
 
   -- the same of the named positions before `end`, without `skip`
-  unfoldable pub NamedTells : ℕ → ℕ → Found → Due → Type 0
-  NamedTells j end skip (Due.At i at) = (i < count_of (tree_of g)) × (VariantAt depth s i at × ((j < end) × NamedIs j i))
-  NamedTells j end skip (Due.Not i at) = VariantAt depth s i at × (j < end → Skipped j ⊎ (skip ≡ Found.At (get_or g.named j 0)))
+  unfoldable pub NamedTells : ℕ → ℕ → std.Option ℕ → Due → Type 0
+  NamedTells j end skip (Due.At p) = (p.position < count_of (tree_of g)) × (VariantAt depth s p.position p.at × ((j < end) × NamedIs j p.position))
+  NamedTells j end skip (Due.Not p) = VariantAt depth s p.position p.at × (j < end → Skipped j ⊎ (skip ≡ Some (get_or g.named j 0)))
   NamedTells j end skip Due.Over = ⊥
 
   -- what is told of a turn: the variant that it tries, or that it tries none, and where the search stands then
   unfoldable pub Tells : Turn → Due → Type 0
-  Tells turn (Due.At i at) = (i < count_of (tree_of g)) × (VariantAt depth s i at × Tries turn i)
-  Tells turn (Due.Not i at) = VariantAt depth s i at × Skips turn
+  Tells turn (Due.At p) = (p.position < count_of (tree_of g)) × (VariantAt depth s p.position p.at × Tries turn p.position)
+  Tells turn (Due.Not p) = VariantAt depth s p.position p.at × Skips turn
   Tells turn Due.Over = NoneLeft turn
 
 -- ---- what is known when a turn comes, for a value
@@ -132,7 +132,7 @@ module _ {depth : ℕ} {s : List ℕ} {way : Way} (g : Goes depth s way) (w : Va
   -- the first named position that is taken is i, behind the table's u
   pub record Beaten (u i : ℕ) : Type 0 where
     pub named : named_variant trials_for g.named (some way.kind) ≡ some i
-    pub table : way.table ≡ Found.At u
+    pub table : way.table ≡ Some u
     pub behind : u < i
 
 -- ---- one turn after another
@@ -159,16 +159,16 @@ Within (Turn.Behind j) = Unit {0}
 Within (Turn.Any i) = i < 2 ^ 63
 
 -- the table's position, where it comes before i
-unfoldable pub sooner_than : Found → ℕ → Found
-sooner_than (Found.At u) i = when ltb u i then Found.At u else Found.Nothing
-sooner_than Found.Nothing i = Found.Nothing
+unfoldable pub sooner_than : std.Option ℕ → ℕ → std.Option ℕ
+sooner_than (Some u) i = when ltb u i then Some u else None
+sooner_than None i = None
 
 -- the same in the turn of a named position i: a variant that stands in any other turn is the choice
-unfoldable pub table_before : Found → ℕ → Turn → Found
+unfoldable pub table_before : std.Option ℕ → ℕ → Turn → std.Option ℕ
 table_before table i (Turn.Before j) = sooner_than table i
-table_before table i Turn.Table = Found.Nothing
-table_before table i (Turn.Behind j) = Found.Nothing
-table_before table i (Turn.Any n) = Found.Nothing
+table_before table i Turn.Table = None
+table_before table i (Turn.Behind j) = None
+table_before table i (Turn.Any n) = None
 
 -- the refusal of a variant in its turn is the answer: of the table's, unless it must be tried
 unfoldable pub is_last : Turn → Bool → Bool

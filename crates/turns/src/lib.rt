@@ -11,18 +11,17 @@ ghost use Rattle.avro.specs.Union.{must_be_tried};
 ghost use Rattle.variants.specs.Ways.{Among, OnRead, VariantAt};
 ghost use Rattle.turns.specs.Turns.{Goes, NamedTells, NotBelow, PositionsRise, Splits, Tells, UnionPart, Within, is_last, next_turn, sooner_than, table_before};
 
-use find::Found;
 use schema::schema_len;
 use variants::{
-    Wanted, base_kind, is_at, is_tried, named_at, named_kind, stands_in, table_position,
-    unnamed_kind, variant_at,
+    base_kind, is_at, is_tried, named_at, named_kind, stands_in, table_position, unnamed_kind,
+    variant_at,
 };
 
 // What a union's choice goes by, for a value of one kind: the kind table's position, the base kind of the named variants to
 // try, where their positions stand and how many there are, how many come before the table's, and whether they rise.
 #[derive(Clone, Copy)]
 pub struct Way {
-    pub table: Found,
+    pub table: Option<usize>,
     pub kind: u8,
     pub at: usize,
     pub count: usize,
@@ -47,12 +46,12 @@ pub struct Spot {
     pub at: usize,
 }
 
-// What a turn does: it tries the variant of a position, which stands at a place; it tries none; or there is none left. The last
-// variant that was gone to is told with it, to go on from.
+// What a turn does: it tries the variant at a spot; it tries none; or there is none left. The last variant that was gone to is
+// told with it, to go on from.
 #[derive(Clone, Copy)]
 pub enum Due {
-    At(usize, usize),
-    Not(usize, usize),
+    At(Spot),
+    Not(Spot),
     Over,
 }
 
@@ -63,7 +62,7 @@ pub fn way_of(s: &[u8], kind: u8, depth: usize) -> Way
 {
     let table = table_position(s, unnamed_kind(kind), depth);
     match named_kind(kind) {
-        Wanted::Any => Way {
+        None => Way {
             table,
             kind: 0,
             at: 0,
@@ -71,7 +70,7 @@ pub fn way_of(s: &[u8], kind: u8, depth: usize) -> Way
             before: 0,
             rises: true,
         },
-        Wanted::Kind(k) => {
+        Some(k) => {
             let named = named_at(s, depth);
             let at = named.at;
             let count = named.count;
@@ -94,18 +93,16 @@ fn is_rising(s: &[u8], at: usize, count: usize) -> bool
     requires { at + 2 * count ≤ length s.now }
     ensures { result ≡ true → PositionsRise s.now at count }
 {
-    let mut j: usize = 1;
-    while j < count {
+    for j in 1..count {
         if number::read2(s, at + 2 * j) <= number::read2(s, at + 2 * j - 2) {
             return false;
         }
-        j += 1;
     }
     true
 }
 
 // How many of the positions come before the table's: those below it where they rise; else all of them.
-fn named_before(s: &[u8], at: usize, count: usize, table: Found, rises: bool) -> usize
+fn named_before(s: &[u8], at: usize, count: usize, table: Option<usize>, rises: bool) -> usize
     requires { (at + 2 * count ≤ length s.now) × (rises ≡ true → PositionsRise s.now at count) }
     ensures { Splits s.now at count table result }
 {
@@ -113,8 +110,8 @@ fn named_before(s: &[u8], at: usize, count: usize, table: Found, rises: bool) ->
         return count;
     }
     match table {
-        Found::Nothing => count,
-        Found::At(u) => below(s, at, count, u),
+        None => count,
+        Some(u) => below(s, at, count, u),
     }
 }
 
@@ -123,12 +120,10 @@ fn below(s: &[u8], at: usize, count: usize, u: usize) -> usize
     requires { (at + 2 * count ≤ length s.now) × PositionsRise s.now at count }
     ensures { NotBelow s.now at count u result }
 {
-    let mut j: usize = 0;
-    while j < count {
+    for j in 0..count {
         if u <= number::read2(s, at + 2 * j) as usize {
             return j;
         }
-        j += 1;
     }
     count
 }
@@ -138,14 +133,12 @@ fn reach(s: &[u8], depth: usize, from: Spot, i: usize) -> usize
     requires { UnionPart depth s.now × (i ≤ number_at s.now 1 2) × VariantAt depth s.now from.position from.at }
     ensures { VariantAt depth s.now i result }
 {
-    let mut j = from.position;
-    let mut at = from.at;
-    if i < j {
+    if i < from.position {
         return variant_at(s, i, depth);
     }
-    while j < i {
+    let mut at = from.at;
+    for _ in from.position..i {
         at += schema_len(&s[at..], depth - 1);
-        j += 1;
     }
     at
 }
@@ -162,25 +155,34 @@ fn stood_before(s: &[u8], way: Way, j: usize, i: usize) -> bool
 }
 
 // What the turn of the j-th named position does, of those up to `end` and without the position `skip`.
-fn named_due(s: &[u8], depth: usize, way: Way, j: usize, end: usize, skip: Found, spot: Spot) -> Due
+fn named_due(
+    s: &[u8],
+    depth: usize,
+    way: Way,
+    j: usize,
+    end: usize,
+    skip: Option<usize>,
+    spot: Spot,
+) -> Due
     requires { Goes depth s.now way × (end ≤ way.count) × VariantAt depth s.now spot.position spot.at }
     ensures { (g : Goes depth s.now way) → NamedTells g j end skip result }
 {
     if end <= j {
-        return Due::Not(spot.position, spot.at);
+        return Due::Not(spot);
     }
     let i = number::read2(s, way.at + 2 * j) as usize;
     if is_at(skip, i) {
-        return Due::Not(spot.position, spot.at);
+        return Due::Not(spot);
     }
     if stood_before(s, way, j, i) {
-        return Due::Not(spot.position, spot.at);
+        return Due::Not(spot);
     }
     let at = reach(s, depth, spot, i);
+    let spot = Spot { position: i, at };
     if base_kind(&s[at..], depth - 1) != way.kind {
-        return Due::Not(i, at);
+        return Due::Not(spot);
     }
-    Due::At(i, at)
+    Due::At(spot)
 }
 
 // What the turn of the table's position does.
@@ -190,10 +192,10 @@ fn table_due(s: &[u8], depth: usize, way: Way, spot: Spot) -> Due
 {
     let table = way.table;
     match table {
-        Found::Nothing => Due::Not(spot.position, spot.at),
-        Found::At(u) => {
+        None => Due::Not(spot),
+        Some(u) => {
             let at = reach(s, depth, spot, u);
-            Due::At(u, at)
+            Due::At(Spot { position: u, at })
         }
     }
 }
@@ -207,17 +209,18 @@ fn any_due(s: &[u8], depth: usize, way: Way, i: usize, spot: Spot) -> Due
         return Due::Over;
     }
     let at = reach(s, depth, spot, i);
+    let spot = Spot { position: i, at };
     let table = way.table;
     if is_at(table, i) {
-        return Due::Not(i, at);
+        return Due::Not(spot);
     }
     if base_kind(&s[at..], depth - 1) != way.kind {
-        return Due::At(i, at);
+        return Due::At(spot);
     }
     if stands_in(s, way.at, way.count, i) {
-        return Due::Not(i, at);
+        return Due::Not(spot);
     }
-    Due::At(i, at)
+    Due::At(spot)
 }
 
 // What a turn does.
@@ -227,7 +230,7 @@ pub fn due_of(s: &[u8], depth: usize, way: Way, turn: Turn, spot: Spot) -> Due
 {
     let table = way.table;
     match turn {
-        Turn::Before(j) => named_due(s, depth, way, j, way.before, Found::Nothing, spot),
+        Turn::Before(j) => named_due(s, depth, way, j, way.before, None, spot),
         Turn::Table => table_due(s, depth, way, spot),
         Turn::Behind(j) => named_due(s, depth, way, j, way.count, table, spot),
         Turn::Any(i) => any_due(s, depth, way, i, spot),
@@ -242,47 +245,39 @@ pub fn next(way: Way, turn: Turn) -> Turn
     match turn {
         Turn::Before(j) => {
             if j < way.before {
-                return Turn::Before(j + 1);
+                Turn::Before(j + 1)
+            } else {
+                Turn::Table
             }
-            Turn::Table
         }
         Turn::Table => Turn::Behind(way.before),
         Turn::Behind(j) => {
             if j < way.count {
-                return Turn::Behind(j + 1);
+                Turn::Behind(j + 1)
+            } else {
+                Turn::Any(0)
             }
-            Turn::Any(0)
         }
         Turn::Any(i) => Turn::Any(i + 1),
     }
 }
 
 // The table's position, where it comes before the named position i whose turn it is: that one stands, and is not the choice.
-pub fn table_before(way: Way, i: usize, turn: Turn) -> Found
+pub fn table_before(way: Way, i: usize, turn: Turn) -> Option<usize>
     ensures { result ≡ table_before way.table i turn }
 {
-    let table = way.table;
     match turn {
-        Turn::Before(_) => sooner(table, i),
-        Turn::Table => Found::Nothing,
-        Turn::Behind(_) => Found::Nothing,
-        Turn::Any(_) => Found::Nothing,
+        Turn::Before(_) => sooner(way.table, i),
+        Turn::Table | Turn::Behind(_) | Turn::Any(_) => None,
     }
 }
 
 // The table's position, where it comes before i.
-fn sooner(table: Found, i: usize) -> Found
+fn sooner(table: Option<usize>, i: usize) -> Option<usize>
     ensures { result ≡ sooner_than table i }
 {
-    match table {
-        Found::Nothing => Found::Nothing,
-        Found::At(u) => {
-            if u < i {
-                return Found::At(u);
-            }
-            Found::Nothing
-        }
-    }
+    let u = table?;
+    if u < i { Some(u) } else { None }
 }
 
 // Whether the refusal of the variant at the front, in its turn, is the answer: the table's is, unless it must be tried.
@@ -291,9 +286,7 @@ pub fn is_last(s: &[u8], depth: usize, turn: Turn) -> bool
     ensures { OnRead (λ t. result ≡ is_last turn (must_be_tried (schema_kind t))) (read_schema depth s.now) }
 {
     match turn {
-        Turn::Before(_) => false,
         Turn::Table => !is_tried(s, depth),
-        Turn::Behind(_) => false,
-        Turn::Any(_) => false,
+        Turn::Before(_) | Turn::Behind(_) | Turn::Any(_) => false,
     }
 }

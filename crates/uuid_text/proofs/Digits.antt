@@ -9,8 +9,10 @@ use native.Mathlib.Omega.{arith}
 use lib.Dec.{leb}
 use lib.ListN.{length, get_or, drop}
 use lib.Seq.{drop-cons, append_snoc}
+use Rattle.std.specs.Prelude.{Some, None}
+use Rattle.std.specs.Prelude as std
 use Rattle.base.specs.Base.{when◌then◌else◌, within}
-use Rattle.uuid_text.specs.Uuid.{hex_digit, hex_pair, hex_bytes}
+use Rattle.uuid_text.specs.Uuid.{hex_digit, hex_pair, hex_bytes, parsed}
 use Rattle.uuid_text.specs.Forms.{or_sixteen}
 
 -- ---- one digit
@@ -46,12 +48,26 @@ unfolding or_sixteen Small
 none_of none r s e h = refl
 none_of (some v) r s e h = absurd (omega arith)
 
--- what the result of `hex_digit` says
+-- what a value with 16 for none says
 pub hex_digit-some : (c r : ℕ) → r ≡ or_sixteen (hex_digit c) → r < 16 → hex_digit c ≡ some r
 hex_digit-some c r e h = some_of (hex_digit c) r e h
 
 pub hex_digit-none : (c r : ℕ) → r ≡ or_sixteen (hex_digit c) → 16 ≤ r → hex_digit c ≡ none
 hex_digit-none c r e h = none_of (hex_digit c) r (small-hex_digit c) e h
+
+-- what an answer says of what was to be read
+pub parsed-some : {A : Type 0} (x : Option A) (a : A) → ◌≡◌ {A = std.Option A} (Some a) (parsed x) → x ≡ some a
+parsed-some none a e = let z : ◌≡◌ {A = ℕ} 0 1 = cc in absurd (omega arith)
+parsed-some (some b) a e = cc
+
+pub parsed-none : {A : Type 0} (x : Option A) → ◌≡◌ {A = std.Option A} None (parsed x) → x ≡ none
+parsed-none none e = refl
+parsed-none (some a) e = let z : ◌≡◌ {A = ℕ} 0 1 = cc in absurd (omega arith)
+
+-- a digit that is read is below 16
+pub digit-small : (c v : ℕ) → hex_digit c ≡ some v → v < 16
+unfolding Small
+digit-small c v e = rw e at (small-hex_digit c)
 
 -- ---- pairs
 pub drop-two : (d : List ℕ) (j : ℕ) → j + 2 ≤ length d → drop j d ≡ get_or d j 0 ∷ get_or d (j + 1) 0 ∷ drop (j + 2) d

@@ -1,9 +1,9 @@
 -- UUID text (docs/RULES.md, "Texts that become something else"; RFC 4122): its forms, and the 16 bytes that they stand for.
-use Rattle.std.specs.Prelude.{ℕ, ◌+◌, ◌-◌, ◌*◌, List, [], ◌∷◌, ◌++◌, Bool, true, false, ◌&&◌, eqb, length, take, drop, get_or, replicate}
+use Rattle.std.specs.Prelude.{ℕ, ◌+◌, ◌-◌, ◌*◌, List, [], ◌∷◌, ◌++◌, Bool, true, false, ◌&&◌, eqb, length, take, drop, get_or, Some, None}
+use Rattle.std.specs.Prelude as std
 use Rattle.std.proofs.Math.Option.{Option, none, some}
 use Rattle.base.specs.Base.{when◌then◌else◌, within}
 use Rattle.text.specs.Text.{Text, ascii, same}
-use Rattle.uuid_text.specs.declared.Parsed.{Parsed}
 
 -- a hexadecimal digit, in either case
 unfoldable pub hex_digit : ℕ → Option ℕ
@@ -54,7 +54,7 @@ uuid_of_text t =
     when eqb (length t) 45 then after_urn t else
     none
 
--- the parser's answer: ok and the bytes, or not ok and zeros
-unfoldable pub parsed : Option (List ℕ) → Parsed
-parsed none = record { ok = false; bytes = replicate 16 0 }
-parsed (some b) = record { ok = true; bytes = b }
+-- what the parser answers, as the definitions say it
+abbrev pub parsed : {A : Type 0} → Option A → std.Option A
+parsed none = None
+parsed (some a) = Some a

@@ -2,94 +2,49 @@
 #![tactic(auto)]
 
 ghost use Rattle.std.specs.Prelude.{◌≡◌, ◌<◌, length};
-ghost use Rattle.std.proofs.Math.Option.{none};
 ghost use Rattle.uuid_text.specs.Uuid.{hex_digit, hex_bytes, has_hyphens, without_hyphens, hyphenated, in_braces, after_urn, uuid_of_text, parsed};
-ghost use Rattle.uuid_text.specs.Forms.{or_sixteen, place};
+ghost use Rattle.uuid_text.specs.Forms.{place};
 
-// ok, and the 16 bytes; where the text is no UUID, not ok, and zeros.
-#[derive(Clone, Copy)]
-pub struct Parsed {
-    pub ok: bool,
-    pub bytes: [u8; 16],
-}
-
-// The value of a hexadecimal digit, 16 where it is none.
-pub fn hex_digit(c: u8) -> u8
-    ensures { result ≡ or_sixteen (hex_digit c) }
+// The value of a hexadecimal digit, in either case.
+#[tactic(auto, unfolding(crate::specs::Uuid::hex_digit))]
+pub fn hex_digit(c: u8) -> Option<u8>
+    ensures { result ≡ parsed (hex_digit c) }
 {
-    if c < 0x30 {
-        return 16;
-    }
-    if c <= 0x39 {
-        return c - 0x30;
-    }
-    if c < 0x41 {
-        return 16;
-    }
-    if c <= 0x46 {
-        return c - 0x41 + 10;
-    }
-    if c < 0x61 {
-        return 16;
-    }
-    if c <= 0x66 {
-        return c - 0x61 + 10;
-    }
-    16
-}
-
-fn refused() -> Parsed
-    ensures { result ≡ parsed none }
-{
-    Parsed {
-        ok: false,
-        bytes: [0u8; 16],
+    match c {
+        b'0'..=b'9' => Some(c - b'0'),
+        b'A'..=b'F' => Some(c - b'A' + 10),
+        b'a'..=b'f' => Some(c - b'a' + 10),
+        _ => None,
     }
 }
 
 // 32 digits.
-fn hex_bytes(d: &[u8]) -> Parsed
+fn hex_bytes(d: &[u8]) -> Option<[u8; 16]>
     requires { length d.now ≡ 32 }
     ensures { result ≡ parsed (hex_bytes d.now) }
 {
     let mut out = [0u8; 16];
-    let mut i = 0;
-    while i < 16 {
-        let h = hex_digit(d[2 * i]);
-        if 16 <= h {
-            return refused();
-        }
-        let l = hex_digit(d[2 * i + 1]);
-        if 16 <= l {
-            return refused();
-        }
+    for i in 0..16 {
+        let h = hex_digit(d[2 * i])?;
+        let l = hex_digit(d[2 * i + 1])?;
         out[i] = h * 16 + l;
-        i += 1;
     }
-    Parsed {
-        ok: true,
-        bytes: out,
-    }
+    Some(out)
 }
 
 // Where digit k of 32 stands in the 36-character form.
+#[tactic(auto, unfolding(crate::specs::Forms::place))]
 fn place(k: usize) -> usize
     requires { k < 32 }
     ensures { result ≡ place k }
 {
-    if k < 8 {
-        return k;
+    match k {
+        0..=7 => k,
+        8..=11 => k + 1,
+        12..=15 => k + 2,
+        16..=19 => k + 3,
+        _ => k + 4,
     }
-    if k < 12 {
-        return k + 1;
-    }
-    if k < 16 {
-        return k + 2;
-    }
-    if k < 20 {
-        return k + 3;
-    }
-    k + 4
 }
 
 fn without_hyphens(s: &[u8]) -> [u8; 32]
@@ -97,83 +52,67 @@ fn without_hyphens(s: &[u8]) -> [u8; 32]
     ensures { result ≡ without_hyphens s.now }
 {
     let mut d = [0u8; 32];
-    let mut k = 0;
-    while k < 32 {
-        let p = place(k);
-        d[k] = s[p];
-        k += 1;
+    for k in 0..32 {
+        d[k] = s[place(k)];
     }
     d
 }
 
+#[tactic(auto, unfolding(crate::specs::Uuid::has_hyphens))]
 fn has_hyphens(s: &[u8]) -> bool
     requires { length s.now ≡ 36 }
     ensures { result ≡ has_hyphens s.now }
 {
-    if s[8] != b'-' {
-        return false;
-    }
-    if s[13] != b'-' {
-        return false;
-    }
-    if s[18] != b'-' {
-        return false;
-    }
-    s[23] == b'-'
+    s[8] == b'-' && s[13] == b'-' && s[18] == b'-' && s[23] == b'-'
 }
 
 // 8, 4, 4, 4 and 12 digits with a hyphen between.
-fn groups(s: &[u8]) -> Parsed
+#[tactic(auto, unfolding(crate::specs::Uuid::hyphenated))]
+fn groups(s: &[u8]) -> Option<[u8; 16]>
     requires { length s.now ≡ 36 }
     ensures { result ≡ parsed (hyphenated s.now) }
 {
     if has_hyphens(s) {
-        let d = without_hyphens(s);
-        return hex_bytes(&d);
+        hex_bytes(&without_hyphens(s))
+    } else {
+        None
     }
-    refused()
 }
 
 // The 36-character form in braces.
-fn braced(s: &[u8]) -> Parsed
+#[tactic(auto, unfolding(crate::specs::Uuid::in_braces))]
+fn braced(s: &[u8]) -> Option<[u8; 16]>
     requires { length s.now ≡ 38 }
     ensures { result ≡ parsed (in_braces s.now) }
 {
-    if s[0] != b'{' {
-        return refused();
+    if s[0] == b'{' && s[37] == b'}' {
+        groups(&s[1..37])
+    } else {
+        None
     }
-    if s[37] != b'}' {
-        return refused();
-    }
-    groups(&s[1..37])
 }
 
 // The 36-character form after urn:uuid:
-fn urn(s: &[u8]) -> Parsed
+fn urn(s: &[u8]) -> Option<[u8; 16]>
     requires { length s.now ≡ 45 }
     ensures { result ≡ parsed (after_urn s.now) }
 {
     if text::same(&s[0..9], b"urn:uuid:") {
-        return groups(&s[9..45]);
+        groups(&s[9..45])
+    } else {
+        None
     }
-    refused()
 }
 
-pub fn parse_str(s: &[u8]) -> Parsed
+#[tactic(auto, unfolding(crate::specs::Uuid::uuid_of_text))]
+pub fn parse_str(s: &[u8]) -> Option<[u8; 16]>
     ensures { result ≡ parsed (uuid_of_text s.now) }
 {
-    let n = s.len();
-    if n == 32 {
-        return hex_bytes(s);
+    match s.len() {
+        32 => hex_bytes(s),
+        36 => groups(s),
+        38 => braced(s),
+        45 => urn(s),
+        _ => None,
     }
-    if n == 36 {
-        return groups(s);
-    }
-    if n == 38 {
-        return braced(s);
-    }
-    if n == 45 {
-        return urn(s);
-    }
-    refused()
 }

@@ -20,7 +20,7 @@ use Rattle.buffer.specs.Built.{Built}
 use Rattle.buffer.proofs.BuiltLaws.{built-front, built-over, built-append}
 use Rattle.avro.specs.Union.{lookup_kind}
 use Rattle.variants.specs.Ways.{found_of, lookup_read}
-use Rattle.find.specs.declared.Found.{Found}
+use Rattle.std.specs.Prelude.{Some, None}
 use Rattle.variants.proofs.UnionReading.{lead-first, lead_at}
 
 -- ---- the position that a kind table gives
@@ -46,7 +46,7 @@ looking-start k s n p e =
     }
 
 module _ (k : ℕ) (s : List ℕ) (left at : ℕ) (w : Looking k s left at) where
-  pub looking-end : left ≤ 0 → Found.Nothing ≡ found_of (lookup_read k (read_list read_lead s))
+  pub looking-end : left ≤ 0 → None ≡ found_of (lookup_read k (read_list read_lead s))
   unfolding lookup_kind found_of
   looking-end h = sym (ap found_of (w.tells ∙ ap (lookup_kind k) (many-none read_lead left (drop at s) w.entries w.rest (omega arith) w.reads).0))
 
@@ -75,7 +75,7 @@ module _ (k : ℕ) (s : List ℕ) (left at : ℕ) (w : Looking k s left at) wher
         ∙ ap (λ x. when eqb x k then some next.item.1 else lookup_kind k next.others) lead-kind
         ∙ ap (λ x. when eqb (get_or s at 0) k then some x else lookup_kind k next.others) lead-position
 
-    pub looking-hit : get_or s at 0 ≡ k → (p : ℕ) → p ≡ number_at s (at + 1) 2 → Found.At p ≡ found_of (lookup_read k (read_list read_lead s))
+    pub looking-hit : get_or s at 0 ≡ k → (p : ℕ) → p ≡ number_at s (at + 1) 2 → Some p ≡ found_of (lookup_read k (read_list read_lead s))
     unfolding found_of
     looking-hit e p f = sym (ap found_of (lookup-here ∙ ap (λ b. when b then some (number_at s (at + 1) 2) else lookup_kind k next.others) (eq-eqb _ _ e) ∙ ap some (sym f)))
 

@@ -1,5 +1,6 @@
 -- What the ways into a union schema require, and what their answers say.
-use Rattle.std.specs.Prelude.{ℕ, ◌+◌, ◌-◌, ◌*◌, ◌≤◌, ◌<◌, ◌≡◌, List, [], ◌∷◌, Bool, true, false, T, eqb, length, drop, get_or}
+use Rattle.std.specs.Prelude as std
+use Rattle.std.specs.Prelude.{ℕ, ◌+◌, ◌-◌, ◌*◌, ◌≤◌, ◌<◌, ◌≡◌, List, [], ◌∷◌, Bool, true, false, T, eqb, length, drop, get_or, Some, None}
 use Rattle.std.proofs.Math.Option.{Option, none, some}
 use Rattle.number.specs.Number.{number_at}
 use Rattle.text.specs.Read.{Read}
@@ -9,9 +10,7 @@ use Rattle.frame.specs.SchemaFrame.{read_schema}
 use Rattle.frame.specs.Sound.{count_variants, schema_sound}
 use Rattle.avro.specs.Defaults.{defaults_short}
 use Rattle.avro.specs.Union.{lookup_kind}
-use Rattle.find.specs.declared.Found.{Found}
 use Rattle.variants.specs.declared.Positions.{Positions}
-use Rattle.variants.specs.declared.Wanted.{Wanted}
 
 -- ---- a union's parts
 
@@ -73,14 +72,14 @@ base_read (some x) = schema_to_base_schemakind x.0
 
 -- ---- kinds and positions
 
-unfoldable pub found_of : Option ℕ → Found
-found_of none = Found.Nothing
-found_of (some i) = Found.At i
+unfoldable pub found_of : Option ℕ → std.Option ℕ
+found_of none = None
+found_of (some i) = Some i
 
 -- the kind to look for
-unfoldable pub wanted_of : Wanted → Option ℕ
-wanted_of (Wanted.Kind k) = some k
-wanted_of Wanted.Any = none
+unfoldable pub wanted_of : std.Option ℕ → Option ℕ
+wanted_of (Some k) = some k
+wanted_of None = none
 
 -- ---- places in a union's part
 
@@ -103,9 +102,9 @@ unfoldable pub Among : List ℕ → ℕ → ℕ → ℕ → Bool → Type 0
 Among s at n i true = (j : ℕ) × ((j < n) × (number_at s (at + 2 * j) 2 ≡ i))
 Among s at n i false = (j : ℕ) → j < n → number_at s (at + 2 * j) 2 ≡ i → ⊥
 
-unfoldable pub is_at : Found → ℕ → Bool
-is_at (Found.At u) i = eqb u i
-is_at Found.Nothing i = false
+unfoldable pub is_at : std.Option ℕ → ℕ → Bool
+is_at (Some u) i = eqb u i
+is_at None i = false
 
 -- the position that a kind table gives for a kind, of a table that was read
 unfoldable pub lookup_read : ℕ → Read (List (ℕ × ℕ)) → Option ℕ

@@ -12,16 +12,8 @@ ghost use Rattle.avro.specs.Union.{must_be_tried, named_kind, table_lookup, unna
 ghost use Rattle.variants.specs.Ways.{found_of, kind_table, named_table, wanted_of, Among, Numbers, OnRead, VariantAt, base_read, is_at, lookup_read};
 
 use buffer::joined;
-use find::Found;
 use frame::kind;
 use schema::schema_len;
-
-// The kind to look for in one of a union's tables, or that none is looked for.
-#[derive(Clone, Copy)]
-pub enum Wanted {
-    Kind(u8),
-    Any,
-}
 
 // Where the positions of named_index stand, and how many there are.
 #[derive(Clone, Copy)]
@@ -30,54 +22,35 @@ pub struct Positions {
     pub count: usize,
 }
 
-// value_to_base_schemakind: the base kind of the named variants to try for a value of kind k.
-pub fn named_kind(k: u8) -> Wanted
+// value_to_base_schemakind: the base kind of the named variants to try for a value of kind k, if any are.
+pub fn named_kind(k: u8) -> Option<u8>
     ensures { wanted_of result ≡ named_kind k }
 {
-    if k == kind::MAP {
-        return Wanted::Kind(kind::RECORD);
+    match k {
+        kind::NULL..=kind::ARRAY => None,
+        kind::MAP => Some(kind::RECORD),
+        kind::UNION => None,
+        kind::RECORD..=kind::FIXED => Some(k),
+        kind::DECIMAL..=kind::UUID => Some(kind::FIXED),
+        kind::DURATION => Some(kind::FIXED),
+        _ => None,
     }
-    if k < kind::RECORD {
-        return Wanted::Any;
-    }
-    if k < kind::DECIMAL {
-        return Wanted::Kind(k);
-    }
-    if k < kind::DATE {
-        return Wanted::Kind(kind::FIXED);
-    }
-    if k == kind::DURATION {
-        return Wanted::Kind(kind::FIXED);
-    }
-    Wanted::Any
 }
 
-// value_to_base_schemakind: the kind to look up in variant_index for a value of kind k.
-pub fn unnamed_kind(k: u8) -> Wanted
+// value_to_base_schemakind: the kind to look up in variant_index for a value of kind k, if one is.
+pub fn unnamed_kind(k: u8) -> Option<u8>
     ensures { wanted_of result ≡ unnamed_kind k }
 {
-    if k < kind::RECORD {
-        return Wanted::Kind(k);
+    match k {
+        kind::NULL..=kind::UNION => Some(k),
+        kind::RECORD..=kind::FIXED => None,
+        kind::DECIMAL => Some(kind::BYTES),
+        kind::UUID => Some(kind::STRING),
+        kind::DATE..=kind::TIME_MILLIS => Some(kind::INT),
+        kind::TIME_MICROS..=kind::LOCAL_TIMESTAMP_NANOS => Some(kind::LONG),
+        kind::DURATION => None,
+        _ => Some(k),
     }
-    if k < kind::DECIMAL {
-        return Wanted::Any;
-    }
-    if k == kind::DECIMAL {
-        return Wanted::Kind(kind::BYTES);
-    }
-    if k == kind::UUID {
-        return Wanted::Kind(kind::STRING);
-    }
-    if k < kind::TIME_MICROS {
-        return Wanted::Kind(kind::INT);
-    }
-    if k < kind::DURATION {
-        return Wanted::Kind(kind::LONG);
-    }
-    if k == kind::DURATION {
-        return Wanted::Any;
-    }
-    Wanted::Kind(k)
 }
 
 // schema_to_base_schemakind of the schema at the front.
@@ -86,31 +59,24 @@ pub fn base_kind(s: &[u8], depth: usize) -> u8
     ensures { result ≡ base_read (read_schema depth s.now) }
 {
     let k = s[0];
-    if k < kind::DECIMAL {
-        return k;
-    }
-    if k == kind::DECIMAL {
-        if s[9] == 0x00 {
-            return kind::BYTES;
+    match k {
+        kind::NULL..=kind::FIXED => k,
+        kind::DECIMAL => {
+            if s[9] == 0x00 {
+                kind::BYTES
+            } else {
+                kind::FIXED
+            }
         }
-        return kind::FIXED;
+        kind::UUID => match s[1] {
+            0x00 => kind::BYTES,
+            0x01 => kind::STRING,
+            _ => kind::FIXED,
+        },
+        kind::DATE..=kind::TIME_MILLIS => kind::INT,
+        kind::TIME_MICROS..=kind::LOCAL_TIMESTAMP_NANOS => kind::LONG,
+        _ => kind::FIXED,
     }
-    if k == kind::UUID {
-        if s[1] == 0x00 {
-            return kind::BYTES;
-        }
-        if s[1] == 0x01 {
-            return kind::STRING;
-        }
-        return kind::FIXED;
-    }
-    if k < kind::TIME_MICROS {
-        return kind::INT;
-    }
-    if k < kind::DURATION {
-        return kind::LONG;
-    }
-    kind::FIXED
 }
 
 // Where a union's variant i stands; behind the last of them, where its kind table does.
@@ -119,10 +85,8 @@ pub fn variant_at(s: &[u8], i: usize, depth: usize) -> usize
     ensures { VariantAt depth s.now i result }
 {
     let mut at: usize = 3;
-    let mut j: usize = 0;
-    while j < i {
+    for _ in 0..i {
         at += schema_len(&s[at..], depth - 1);
-        j += 1;
     }
     at
 }
@@ -148,51 +112,48 @@ pub fn stands_in(s: &[u8], at: usize, n: usize, i: usize) -> bool
     requires { at + 2 * n ≤ length s.now }
     ensures { Among s.now at n i result }
 {
-    let mut j: usize = 0;
-    while j < n {
+    for j in 0..n {
         if number::read2(s, at + 2 * j) as usize == i {
             return true;
         }
-        j += 1;
     }
     false
 }
 
 // Whether the place that was found is i.
-pub fn is_at(found: Found, i: usize) -> bool
+pub fn is_at(found: Option<usize>, i: usize) -> bool
     ensures { result ≡ is_at found i }
 {
     match found {
-        Found::At(u) => u == i,
-        Found::Nothing => false,
+        Some(u) => u == i,
+        None => false,
     }
 }
 
 // The position that a kind table gives for a kind.
-fn look_up(s: &[u8], kind: u8) -> Found
+fn look_up(s: &[u8], kind: u8) -> Option<usize>
     requires { Reads (read_list read_lead s.now) }
     ensures { result ≡ found_of (lookup_read kind (read_list read_lead s.now)) }
 {
-    let mut left = number::read2(s, 0);
+    let count = number::read2(s, 0);
     let mut at: usize = 2;
-    while 0 < left {
+    for _ in 0..count {
         if s[at] == kind {
-            return Found::At(number::read2(s, at + 1) as usize);
+            return Some(number::read2(s, at + 1) as usize);
         }
         at += 3;
-        left -= 1;
     }
-    Found::Nothing
+    None
 }
 
 // The position that a union's kind table gives for a kind, if there is one to look for.
-pub fn table_position(s: &[u8], kind: Wanted, depth: usize) -> Found
+pub fn table_position(s: &[u8], kind: Option<u8>, depth: usize) -> Option<usize>
     requires { Reads (read_schema depth s.now) × (get_or s.now 0 0 ≡ 10) }
     ensures { OnRead (λ t. result ≡ found_of (table_lookup (kind_table t) (wanted_of kind))) (read_schema depth s.now) }
 {
     match kind {
-        Wanted::Any => Found::Nothing,
-        Wanted::Kind(k) => {
+        None => None,
+        Some(k) => {
             let n = number::read2(s, 1) as usize;
             let at = variant_at(s, n, depth);
             look_up(&s[at..], k)
@@ -205,11 +166,7 @@ pub fn is_tried(s: &[u8], depth: usize) -> bool
     requires { Reads (read_schema depth s.now) }
     ensures { OnRead (λ t. result ≡ must_be_tried (schema_kind t)) (read_schema depth s.now) }
 {
-    let k = s[0];
-    if k == kind::MAP {
-        return true;
-    }
-    k == kind::ARRAY
+    s[0] == kind::MAP || s[0] == kind::ARRAY
 }
 
 // Writes the kind and the index of a Union before what stands from the sixth byte on, m bytes.

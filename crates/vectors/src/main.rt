@@ -9,84 +9,80 @@ ghost use Rattle.std.specs.Prelude.{◌≡◌, length};
 ghost use Rattle.vectors.specs.Buffers.{Buffers};
 
 use crate::list::Replay;
+use lines::input::Reader;
 use std::rt::Env;
-use streams::output::{put, put_decimal};
+use streams::output::Output;
 use streams::{CanRead, CanWrite};
 
-// A proved loop has to end, and nothing says that the input does. So the turns are counted down from a number that no run uses up.
-fn run(
-    rt: &(impl CanRead + CanWrite),
+// A proved loop has to end, and nothing says that the input does. So there are as many turns as no run uses up.
+fn run<R: CanRead + CanWrite>(
+    rt: &R,
     block: &mut [u8],
     line: &mut [u8],
     schema: &mut [u8],
     value: &mut [u8],
     res: &mut [u8],
     workspace: &mut [u8],
-    out: &mut [u8],
+    answer: &mut [u8],
     counts: &mut [u64],
+    out: &mut Output<'_, R>,
 ) -> Replay
-    requires { Buffers schema.old value.old res.old workspace.old out.old counts.old }
+    requires { Buffers schema.old value.old res.old workspace.old answer.old counts.old }
 {
-    let mut r = lines::input::start();
-    let mut t = list::start();
-    let mut turns = u64::MAX;
-    while turns > 0 {
+    let mut r = Reader::start();
+    let mut t = Replay::start();
+    for _ in 0..u64::MAX {
         r = streams::input::next(rt, r, block, line);
         if !r.whole {
             return t;
         }
         let n = r.filled;
-        t = list::step(
-            rt,
-            t,
+        t = t.step(
             &line[0..n],
             schema,
             value,
             res,
             workspace,
-            out,
+            answer,
             counts,
+            out,
         );
-        turns -= 1;
     }
     t
 }
 
 // A line with a count behind its words.
-fn counted(rt: &impl CanWrite, ok: bool, words: &[u8], n: u64) -> bool {
-    let ok = put(rt, ok, words);
-    let ok = put_decimal(rt, ok, n);
-    put(rt, ok, b"\n")
+fn counted(out: &mut Output<'_, impl CanWrite>, words: &[u8], n: u64) {
+    out.put(words);
+    out.put_decimal(n);
+    out.put(b"\n");
 }
 
 // A line for a number that the list's refusals have, and how many have it.
-fn refusal(rt: &impl CanWrite, ok: bool, number: u64, n: u64) -> bool {
-    let ok = put(rt, ok, b"refused with ");
-    let ok = put_decimal(rt, ok, number);
-    counted(rt, ok, b": ", n)
+fn refusal(out: &mut Output<'_, impl CanWrite>, number: u64, n: u64) {
+    out.put(b"refused with ");
+    out.put_decimal(number);
+    counted(out, b": ", n);
 }
 
 // How many of the list's answers are refusals with each number that it has.
-fn refusals(rt: &impl CanWrite, first: bool, counts: &[u64])
+fn refusals(out: &mut Output<'_, impl CanWrite>, counts: &[u64])
     requires { length counts.now ≡ 100 }
 {
-    let mut ok = first;
-    let mut n: usize = 1;
-    while n < 100 {
+    for n in 1..100 {
         if 0 < counts[n] {
-            ok = refusal(rt, ok, n as u64, counts[n]);
+            refusal(out, n as u64, counts[n]);
         }
-        n += 1;
     }
 }
 
 // How many answers were compared and differ, and how many of the list's are accepted.
-fn totals(rt: &impl CanWrite, t: Replay, accepted: u64) -> bool {
-    let ok = put_decimal(rt, t.ok, t.compared);
-    let ok = put(rt, ok, b" answers compared, ");
-    let ok = put_decimal(rt, ok, t.differ);
-    let ok = put(rt, ok, b" differ\n");
-    counted(rt, ok, b"accepted: ", accepted)
+fn totals(out: &mut Output<'_, impl CanWrite>, t: Replay, accepted: u64) {
+    out.put_decimal(t.compared);
+    out.put(b" answers compared, ");
+    out.put_decimal(t.differ);
+    out.put(b" differ\n");
+    counted(out, b"accepted: ", accepted);
 }
 
 // Whether there are arguments; the usage then.
@@ -108,8 +104,9 @@ fn main(rt: HostRuntime) {
     let mut value = [0u8; 65536];
     let mut result = [0u8; 65535];
     let mut workspace = [0u8; 65536];
-    let mut out = [0u8; 131073];
+    let mut answer = [0u8; 131073];
     let mut counts = [0u64; 100];
+    let mut out = Output::new(&rt);
     let t = run(
         &rt,
         &mut block,
@@ -118,9 +115,10 @@ fn main(rt: HostRuntime) {
         &mut value,
         &mut result,
         &mut workspace,
-        &mut out,
+        &mut answer,
         &mut counts,
+        &mut out,
     );
-    let ok = totals(&rt, t, counts[0]);
-    refusals(&rt, ok, &counts);
+    totals(&mut out, t, counts[0]);
+    refusals(&mut out, &counts);
 }

@@ -15,7 +15,7 @@ use Rattle.number.proofs.Laws.{all_bytes-drop}
 use Rattle.text.specs.Read.{read_bytes, read_number, ◌>>=◌}
 use Rattle.text.specs.Measured.{Reads}
 use Rattle.frame.specs.Kind
-use Rattle.frame.specs.Tree.{Value, Schema, Variants, variant, kind_of, is, peel, schema_kind}
+use Rattle.frame.specs.Tree.{Value, Schema, Variants, variant, kind_of, peel, schema_kind}
 use Rattle.frame.specs.Readers.{read_many}
 use Rattle.frame.specs.ValueFrame.{contents, read_content, read_value, encode_value}
 use Rattle.frame.specs.SchemaFrame.{variants_of, read_schema}
@@ -28,7 +28,8 @@ use Rattle.frame.proofs.SchemaNodes.{schema-there, schema-kind}
 use Rattle.types.specs.Types.{Outcome}
 use Rattle.types.specs.Contract.{encoded, on_both}
 use Rattle.buffer.specs.Built.{Built, Wrote}
-use Rattle.buffer.specs.declared.Answer.TheVariants.{Accepted, Refused}
+use Rattle.std.specs.Prelude.{Ok, Err}
+use Rattle.base.specs.declared.refusal.Refusal.{Refusal}
 use Rattle.avro.specs.Resolve.{first, resolve, start_default}
 use Rattle.avro.specs.Defaults.{defaults_short, variant_defaults_short, short_default, short_start}
 use Rattle.frame.proofs.SoundLaws.{sound-union, sound-variant}
@@ -173,20 +174,20 @@ module _ (ds : ℕ) (s d : List ℕ) (rd : ReadyDefault ds s d) (e : get_or s 0 
     unfolding node_bytes
     trial-is = both_some node_bytes _ _ fv.lead rd.value fv.rest rd.rest fv.reads rd.reads
 
-    pub default-refused : (z o : List ℕ) (k : ℕ) → Wrote (on_both node_bytes (read_schema (ds - 1) (drop 3 s)) (read_value 16 d)) z (Refused k) → Wrote (on_both default_bytes (read_schema ds s) (read_value 16 d)) o (Refused k)
+    pub default-refused : (z o : List ℕ) (k : Refusal) → Wrote (on_both node_bytes (read_schema (ds - 1) (drop 3 s)) (read_value 16 d)) z (Err k) → Wrote (on_both default_bytes (read_schema ds s) (read_value 16 d)) o (Err k)
     default-refused z o k w =
-        subst (λ x. Wrote x o (Refused k)) (sym (default-open ∙ ap (λ x. after x (λ r. peeled_bytes tree r)) starts_is))
-        (go (resolve fv.lead rd.value) (subst (λ x. Wrote x z (Refused k)) trial-is w))
+        subst (λ x. Wrote x o (Err k)) (sym (default-open ∙ ap (λ x. after x (λ r. peeled_bytes tree r)) starts_is))
+        (go (resolve fv.lead rd.value) (subst (λ x. Wrote x z (Err k)) trial-is w))
       where
-        go : (x : Outcome) → Wrote (encoded x) z (Refused k) → Wrote (after x (λ r. peeled_bytes tree r)) o (Refused k)
+        go : (x : Outcome) → Wrote (encoded x) z (Err k) → Wrote (after x (λ r. peeled_bytes tree r)) o (Err k)
         go (ok r) w = absurd (unfold encoded Wrote in w)
         go (stop m) w = unfold encoded Wrote after in w
 
-    module _ (bs : T (all_bytes s)) (bd : T (all_bytes d)) (z : List ℕ) (m : ℕ) (w : Wrote (on_both node_bytes (read_schema (ds - 1) (drop 3 s)) (read_value 16 d)) z (Accepted m)) (l : length z ≡ 4096) where
+    module _ (bs : T (all_bytes s)) (bd : T (all_bytes d)) (z : List ℕ) (m : ℕ) (w : Wrote (on_both node_bytes (read_schema (ds - 1) (drop 3 s)) (read_value 16 d)) z (Ok m)) (l : length z ≡ 4096) where
       made : (r : Value) × ((resolve fv.lead rd.value ≡ ok r) × Built (encode_value r) z m)
-      made = go (resolve fv.lead rd.value) (subst (λ x. Wrote x z (Accepted m)) trial-is w)
+      made = go (resolve fv.lead rd.value) (subst (λ x. Wrote x z (Ok m)) trial-is w)
         where
-          go : (x : Outcome) → Wrote (encoded x) z (Accepted m) → (r : Value) × ((x ≡ ok r) × Built (encode_value r) z m)
+          go : (x : Outcome) → Wrote (encoded x) z (Ok m) → (r : Value) × ((x ≡ ok r) × Built (encode_value r) z m)
           go (ok r) w = (r, (refl, unfold encoded Wrote in w))
           go (stop k) w = absurd (unfold encoded Wrote in w)
 

@@ -3,7 +3,6 @@ use Prim.Native.Nat.{ℕ, ◌+◌, ◌-◌, ◌≤◌}
 use mathlib.Core.Path.{◌≡◌, refl, sym, ap, ◌∙◌, subst}
 use mathlib.Core.List.{List, ◌++◌}
 use mathlib.Core.Option.{Option, none, some}
-use mathlib.Core.Bool.{true, false}
 use native.Mathlib.Omega.{arith}
 use lib.Dec.{T}
 use lib.ListN.{length, take, drop, length-drop}
@@ -27,7 +26,7 @@ use Rattle.types.specs.Contract.{on_both}
 use Rattle.find.proofs.FindLaws.{located-at, located-nothing}
 use Rattle.walk.specs.Contract.{ReadyField, ReadyDefault, node_bytes, entry_bytes, default_bytes, field_bytes}
 use Rattle.variants.specs.Ways.{Ready}
-use Rattle.find.specs.declared.Found.TheVariants.{At, Nothing}
+use Rattle.std.specs.Prelude.{Some, None}
 use Rattle.field.specs.declared.FieldAt.{FieldAt}
 use Rattle.walk.proofs.Pieces.{both_some, front}
 use Rattle.schema.proofs.Checking.{name-is as field-name}
@@ -98,18 +97,18 @@ pub record Given (s : List ℕ) (p : ℕ) (d : Option Value) : Type 0 where
   pub inside : p ≤ length s
   pub reads : read_value 16 (drop p s) ≡ some (value, rest)
 
-pub default-given : (s : List ℕ) (p : ℕ) (d : Option Value) → DefaultAt s true p d → Given s p d
+pub default-given : (s : List ℕ) (p : ℕ) (d : Option Value) → DefaultAt s (Some p) d → Given s p d
 unfolding DefaultAt
 default-given s p none w = absurd w
 default-given s p (some v) w = record { value = v; rest = w.1.0; there = refl; inside = w.0; reads = w.1.1 }
 
-pub default_none : (s : List ℕ) (p : ℕ) (d : Option Value) → DefaultAt s false p d → d ≡ none
+pub default_none : (s : List ℕ) (d : Option Value) → DefaultAt s None d → d ≡ none
 unfolding DefaultAt
-default_none s p none w = refl
-default_none s p (some v) w = absurd w
+default_none s none w = refl
+default_none s (some v) w = absurd w
 
 -- the value that was found under a name
-module _ (x v : List ℕ) (dv p : ℕ) (l : Located (entry_under x (read_value dv v)) (dv - 1) v (At p)) where
+module _ (x v : List ℕ) (dv p : ℕ) (l : Located (entry_under x (read_value dv v)) (dv - 1) v (Some p)) where
   found-parts : (p ≤ length v) × ((w : Value) × ((entry_under x (read_value dv v) ≡ some w) × ((r : List ℕ) × (read_value (dv - 1) (drop p v) ≡ some (w, r)))))
   found-parts = located-at (entry_under x (read_value dv v)) (dv - 1) v p l
 
@@ -151,7 +150,7 @@ module _ (ds : ℕ) (s : List ℕ) (rf : ReadyField ds s) (f : FieldAt) (fp : Fi
         ∙ ap (λ y. after (field_value y fp.default (λ d. start_default fp.tree d)) (λ z. after (node_bytes fp.tree z) (λ b. ok (write_text x ++ b)))) w
         ∙ ap (λ y. after (field_value o fp.default (λ d. start_default fp.tree d)) (λ z. front y (node_bytes fp.tree z))) (sym (text_head s x (drop (2 + length x) s) b e))
 
-    module _ (p : ℕ) (l : Located (entry_under x (read_value dv v)) (dv - 1) v (At p)) where
+    module _ (p : ℕ) (l : Located (entry_under x (read_value dv v)) (dv - 1) v (Some p)) where
       pub field_found : on_both field_bytes (read_field (read_schema ds) s) (read_value dv v) ≡ front (take (length x + 2) s) (on_both node_bytes (read_schema ds (drop f.schema_at s)) (read_value (dv - 1) (drop p v)))
       unfolding field_value after
       field_found =
@@ -159,22 +158,22 @@ module _ (ds : ℕ) (s : List ℕ) (rf : ReadyField ds s) (f : FieldAt) (fp : Fi
           field_open (some i.0) i.1.0
           ∙ ap (front (take (length x + 2) s)) (sym (both_some node_bytes _ _ fp.tree i.0 fp.rest i.1.1.0 fp.schema_at i.1.1.1))
 
-    module _ (l : Located (entry_under x (read_value dv v)) (dv - 1) v Nothing) where
+    module _ (l : Located (entry_under x (read_value dv v)) (dv - 1) v None) where
       not_found : entry_under x (read_value dv v) ≡ none
       not_found = located-nothing (entry_under x (read_value dv v)) (dv - 1) v l
 
-      pub field-none : f.default ≡ false → on_both field_bytes (read_field (read_schema ds) s) (read_value dv v) ≡ stop 17
+      pub field-none : f.default ≡ None → on_both field_bytes (read_field (read_schema ds) s) (read_value dv v) ≡ stop 17
       unfolding field_value after
-      field-none h = field_open none not_found ∙ ap (λ y. after (field_value none y (λ d. start_default fp.tree d)) (λ y. front (take (length x + 2) s) (node_bytes fp.tree y))) (default_none s f.default_at fp.default (rw h at fp.default_at))
+      field-none h = field_open none not_found ∙ ap (λ y. after (field_value none y (λ d. start_default fp.tree d)) (λ y. front (take (length x + 2) s) (node_bytes fp.tree y))) (default_none s fp.default (rw h at fp.default_at))
 
-  module _ (h : f.default ≡ true) where
-    given : Given s f.default_at fp.default
-    given = default-given s f.default_at fp.default (rw h at fp.default_at)
+  module _ (p : ℕ) (h : f.default ≡ Some p) where
+    given : Given s p fp.default
+    given = default-given s p fp.default (rw h at fp.default_at)
 
-    pub default-inside : f.default_at ≤ length s
+    pub default-inside : p ≤ length s
     default-inside = given.inside
 
-    pub field-default : ReadyDefault ds (drop f.schema_at s) (drop f.default_at s)
+    pub field-default : ReadyDefault ds (drop f.schema_at s) (drop p s)
     unfolding field-schema
     field-default =
         let i = given in
@@ -187,8 +186,8 @@ module _ (ds : ℕ) (s : List ℕ) (rf : ReadyField ds s) (f : FieldAt) (fp : Fi
           start = subst (λ o. T (short_default fp.tree o)) i.there q;
         }
 
-    pub field-defaults : (dv : ℕ) (v x : List ℕ) (pv : Reads (read_value dv v)) → T (all_bytes s) → read_counted s ≡ some (x, drop (2 + length x) s) → Located (entry_under x (read_value dv v)) (dv - 1) v Nothing
-        → on_both field_bytes (read_field (read_schema ds) s) (read_value dv v) ≡ front (take (length x + 2) s) (on_both default_bytes (read_schema ds (drop f.schema_at s)) (read_value 16 (drop f.default_at s)))
+    pub field-defaults : (dv : ℕ) (v x : List ℕ) (pv : Reads (read_value dv v)) → T (all_bytes s) → read_counted s ≡ some (x, drop (2 + length x) s) → Located (entry_under x (read_value dv v)) (dv - 1) v None
+        → on_both field_bytes (read_field (read_schema ds) s) (read_value dv v) ≡ front (take (length x + 2) s) (on_both default_bytes (read_schema ds (drop f.schema_at s)) (read_value 16 (drop p s)))
     unfolding field_value default_bytes
     field-defaults dv v x pv b e l =
         let i = given in

@@ -19,7 +19,7 @@ use Rattle.frame.proofs.Reading.{bind-some, read-what}
 use Rattle.frame.proofs.Counting.{Split, many-split, many-zero}
 use Rattle.types.specs.Contract.{on_read, on_both}
 use Rattle.buffer.specs.Built.{Built, Wrote}
-use Rattle.buffer.specs.declared.Answer.TheVariants.{Accepted}
+use Rattle.std.specs.Prelude.{Ok}
 use Rattle.find.specs.Find.{Keyed}
 use Rattle.walk.specs.Contract.{ReadyField, field_bytes}
 use Rattle.variants.specs.Ways.{Ready}
@@ -70,7 +70,7 @@ module _ (s v : List ℕ) (ds dv len : ℕ) (out : List ℕ) (left at from : ℕ
       }
 
   pub fields-step : (m : ℕ) → m ≤ length (drop from s) → (1 < left → Spans (read_field (read_schema (ds - 1)) (drop from s)) (drop from s) m) → (k a r : ℕ) (z : List ℕ) → k ≡ min at (length out)
-      → length z ≡ length (take (length out - k) (drop k out)) → Wrote (on_read (on_second field_bytes (read_value dv v)) (read_field (read_schema (ds - 1)) (drop from s))) z (Accepted a) → r ≡ min (at + a) 65536
+      → length z ≡ length (take (length out - k) (drop k out)) → Wrote (on_read (on_second field_bytes (read_value dv v)) (read_field (read_schema (ds - 1)) (drop from s))) z (Ok a) → r ≡ min (at + a) 65536
       → FieldLoop s v ds dv len (take k out ++ (z ++ drop (length out - k) (drop k out))) (left - 1) r (from + m)
   fields-step m g u k a r z hk l hw hr = record {
     loop = loop-reach _ _ _ s len out left at from w.loop h m g u k a r z hk l hw hr;

@@ -21,11 +21,12 @@ use Rattle.frame.proofs.Counting.{many-zero, Split, many-split}
 use Rattle.types.specs.Contract.{on_read, on_both}
 use Rattle.buffer.specs.Built.{Built, Wrote}
 use Rattle.buffer.proofs.BuiltLaws.{tail-back, length-tail-back, built-small, built-append}
-use Rattle.buffer.specs.declared.Answer.TheVariants.{Accepted, Refused}
+use Rattle.std.specs.Prelude.{Ok, Err}
+use Rattle.base.specs.declared.refusal.Refusal.{Refusal}
 
 -- ---- answers
 
-pub accepted-small : (x : Result (List ℕ)) (o : List ℕ) (m : ℕ) → Wrote x o (Accepted m) → m ≤ 65536
+pub accepted-small : (x : Result (List ℕ)) (o : List ℕ) (m : ℕ) → Wrote x o (Ok m) → m ≤ 65536
 unfolding Wrote
 accepted-small (ok b) o m w = built-small b o m w
 accepted-small (stop e) o m w = absurd w
@@ -83,7 +84,7 @@ front-front p b (ok c) = ap ok (sym (append_assoc p b c))
 
 -- one part more is accepted
 pub going_step : (whole x rest rest' : Result (List ℕ)) (y z : List ℕ) (n m k r : ℕ) → Going whole y n rest → rest ≡ after x (λ b. front b rest') → k ≡ min n (length y)
-    → length z ≡ length y - k → Wrote x z (Accepted m) → r ≡ min (n + m) 65536 → Going whole (take k y ++ z) r rest'
+    → length z ≡ length y - k → Wrote x z (Ok m) → r ≡ min (n + m) 65536 → Going whole (take k y ++ z) r rest'
 unfolding Wrote after
 going_step whole (stop e) rest rest' y z n m k r g q h l w i = absurd w
 going_step whole (ok b) rest rest' y z n m k r g q h l w i = record {
@@ -93,15 +94,15 @@ going_step whole (ok b) rest rest' y z n m k r g q h l w i = record {
 }
 
 -- a part is refused
-pub going-no : (whole x rest : Result (List ℕ)) (f : List ℕ → Result (List ℕ)) (y z o : List ℕ) (n e : ℕ) → Going whole y n rest → rest ≡ after x f → Wrote x z (Refused e) → Wrote whole o (Refused e)
+pub going-no : (whole x rest : Result (List ℕ)) (f : List ℕ → Result (List ℕ)) (y z o : List ℕ) (n : ℕ) (e : Refusal) → Going whole y n rest → rest ≡ after x f → Wrote x z (Err e) → Wrote whole o (Err e)
 unfolding Wrote after
-going-no whole (stop k) rest f y z o n e g q w = subst (λ v. Wrote v o (Refused e)) (sym (g.goes ∙ ap (front g.done) q)) w
+going-no whole (stop k) rest f y z o n e g q w = subst (λ v. Wrote v o (Err e)) (sym (g.goes ∙ ap (front g.done) q)) w
 going-no whole (ok b) rest f y z o n e g q w = absurd w
 
 -- nothing is to follow
-pub going_end : (whole rest : Result (List ℕ)) (y : List ℕ) (n : ℕ) → Going whole y n rest → rest ≡ ok [] → Wrote whole y (Accepted n)
+pub going_end : (whole rest : Result (List ℕ)) (y : List ℕ) (n : ℕ) → Going whole y n rest → rest ≡ ok [] → Wrote whole y (Ok n)
 unfolding Wrote after
-going_end whole rest y n g q = subst (λ v. Wrote v y (Accepted n)) (sym (g.goes ∙ ap (front g.done) q ∙ ap ok (append-nil g.done))) g.built
+going_end whole rest y n g q = subst (λ v. Wrote v y (Ok n)) (sym (g.goes ∙ ap (front g.done) q ∙ ap ok (append-nil g.done))) g.built
 
 last-part : (x : Result (List ℕ)) → x ≡ after x (λ b. front b (ok []))
 unfolding after
@@ -114,13 +115,13 @@ lent k y z l = l ∙ ap length (part_to_end y k) ∙ length-drop k y
 
 -- bytes, and then the rest in the tail
 pub wrote-last : (whole x : Result (List ℕ)) (p y z : List ℕ) (n m k r : ℕ) → Built p y n → whole ≡ front p x → k ≡ min n (length y) → length z ≡ length (take (length y - k) (drop k y))
-    → Wrote x z (Accepted m) → r ≡ min (n + m) 65536 → Wrote whole (take k y ++ (z ++ drop (length y - k) (drop k y))) (Accepted r)
+    → Wrote x z (Ok m) → r ≡ min (n + m) 65536 → Wrote whole (take k y ++ (z ++ drop (length y - k) (drop k y))) (Ok r)
 wrote-last whole x p y z n m k r b e h l w i =
     rw (tail-back k y z) (going_end whole (ok []) (take k y ++ z) r (going_step whole x x (ok []) y z n m k r (going_start whole p y n x b e) (last-part x) h (lent k y z l) w i) refl)
 
-pub wrote-last-no : (whole x : Result (List ℕ)) (p z o : List ℕ) (e : ℕ) → whole ≡ front p x → Wrote x z (Refused e) → Wrote whole o (Refused e)
+pub wrote-last-no : (whole x : Result (List ℕ)) (p z o : List ℕ) (e : Refusal) → whole ≡ front p x → Wrote x z (Err e) → Wrote whole o (Err e)
 unfolding Wrote after
-wrote-last-no whole (stop k) p z o e q w = subst (λ v. Wrote v o (Refused e)) (sym q) w
+wrote-last-no whole (stop k) p z o e q w = subst (λ v. Wrote v o (Err e)) (sym q) w
 wrote-last-no whole (ok b) p z o e q w = absurd w
 
 -- ---- many things
@@ -152,10 +153,10 @@ module _ {A : Type 0} (p : List ℕ → Read A) (whole : Result (List ℕ)) (f :
   pub loop-small : at ≤ 65536
   loop-small = going-small _ out at _ w.going
 
-  pub loop-end : left ≤ 0 → Wrote whole out (Accepted at)
+  pub loop-end : left ≤ 0 → Wrote whole out (Ok at)
   loop-end h = going_end _ _ out at w.going (each_none p f left (drop from s) h)
 
-  pub loop-no : 0 < left → (z o : List ℕ) (e : ℕ) → Wrote (on_read f (p (drop from s))) z (Refused e) → Wrote whole o (Refused e)
+  pub loop-no : 0 < left → (z o : List ℕ) (e : Refusal) → Wrote (on_read f (p (drop from s))) z (Err e) → Wrote whole o (Err e)
   loop-no h z o e v = going-no _ _ _ _ out z o at e w.going (each-split p f left (drop from s) (many-split p left (drop from s) w.others h)) v
 
   pub loop-add : (m : ℕ) → Spans (p (drop from s)) (drop from s) m → from + m ≤ length s
@@ -166,7 +167,7 @@ module _ {A : Type 0} (p : List ℕ → Read A) (whole : Result (List ℕ)) (f :
   loop-tail h m v = let n = many-split p left (drop from s) w.others h in spans-rest _ _ m v n.item n.tail n.first ∙ drop-drop m from s
 
   pub loop-step : 0 < left → (m : ℕ) → Spans (p (drop from s)) (drop from s) m → (k a r : ℕ) (z : List ℕ) → k ≡ min at (length out) → length z ≡ length (take (length out - k) (drop k out))
-      → Wrote (on_read f (p (drop from s))) z (Accepted a) → r ≡ min (at + a) 65536
+      → Wrote (on_read f (p (drop from s))) z (Ok a) → r ≡ min (at + a) 65536
       → Loop p whole f s len (take k out ++ (z ++ drop (length out - k) (drop k out))) (left - 1) r (from + m)
   loop-step h m v k a r z hk l hw hr =
       let n = many-split p left (drop from s) w.others h in
@@ -183,7 +184,7 @@ module _ {A : Type 0} (p : List ℕ → Read A) (whole : Result (List ℕ)) (f :
 
   -- the last, behind which nothing is looked at
   loop-last : 0 < left → left ≤ 1 → (m : ℕ) → m ≤ length (drop from s) → (k a r : ℕ) (z : List ℕ) → k ≡ min at (length out) → length z ≡ length (take (length out - k) (drop k out))
-      → Wrote (on_read f (p (drop from s))) z (Accepted a) → r ≡ min (at + a) 65536
+      → Wrote (on_read f (p (drop from s))) z (Ok a) → r ≡ min (at + a) 65536
       → Loop p whole f s len (take k out ++ (z ++ drop (length out - k) (drop k out))) (left - 1) r (from + m)
   loop-last h j m g k a r z hk l hw hr =
       let n = many-split p left (drop from s) w.others h in
@@ -198,7 +199,7 @@ module _ {A : Type 0} (p : List ℕ → Read A) (whole : Result (List ℕ)) (f :
 
   -- one more, of m bytes where others follow
   pub loop-reach : 0 < left → (m : ℕ) → m ≤ length (drop from s) → (1 < left → Spans (p (drop from s)) (drop from s) m) → (k a r : ℕ) (z : List ℕ) → k ≡ min at (length out)
-      → length z ≡ length (take (length out - k) (drop k out)) → Wrote (on_read f (p (drop from s))) z (Accepted a) → r ≡ min (at + a) 65536
+      → length z ≡ length (take (length out - k) (drop k out)) → Wrote (on_read f (p (drop from s))) z (Ok a) → r ≡ min (at + a) 65536
       → Loop p whole f s len (take k out ++ (z ++ drop (length out - k) (drop k out))) (left - 1) r (from + m)
   loop-reach h m g v k a r z hk l hw hr = go (leb left 1) refl
     where

@@ -20,25 +20,27 @@ use Rattle.frame.proofs.ValueNodes.{value-kind}
 use Rattle.types.specs.Types.{Outcome}
 use Rattle.types.specs.Contract.{encoded, on_both}
 use Rattle.buffer.specs.Built.{Built, Wrote}
-use Rattle.buffer.specs.declared.Answer.{Answer}
-use Rattle.buffer.specs.declared.Answer.TheVariants.{Accepted, Refused}
+use Rattle.std.specs.Prelude as std
+use Rattle.std.specs.Prelude.{Ok, Err, Some, None}
+use Rattle.base.specs.declared.refusal.Refusal.{Refusal}
+use Rattle.base.specs.declared.refusal.Refusal.TheVariants.{NoVariant}
 use Rattle.buffer.proofs.BuiltLaws.{tail-back, wrote-refused}
 use Rattle.avro.specs.Union.{Trial, no_trial, find_schema_with_known_schemata, in_union, must_be_tried, resolve_union}
 use Rattle.avro.specs.Resolve.{resolve, trials}
-use Rattle.find.specs.declared.Found.{Found}
 use Rattle.leaf.specs.Leaf.{resolve_peeled, peeled_bytes}
 use Rattle.leaf.proofs.LeafSchemas.{wrote-eq}
 use Rattle.variants.specs.Ways.{OnRead, Ready, VariantAt, count_of, kind_table, named_table, union_variants, variant_nth, union_parts}
 use Rattle.variants.proofs.UnionReading.{on_read, union-parts}
 use Rattle.turns.specs.Turns.{Goes, ToldBefore, Tells, UnionPart, Within, chosen_for, is_last, next_turn, resolves, table_before, tree_of, trials_for, turns_left}
 use Rattle.turns.specs.declared.Due.{Due}
+use Rattle.turns.specs.declared.Spot.{Spot}
 use Rattle.turns.specs.declared.Turn.{Turn}
 use Rattle.turns.specs.declared.Way.{Way}
 use Rattle.turns.proofs.PartLaws.{part-start, part-long, part_count, variant-read}
 use Rattle.turns.proofs.TurnLaws.{known_start, known_next, turns-fewer, skips-pass, refused-pass, accepted-chosen, last-chosen, none-chosen, beaten, beaten-accepted, beaten-untried, beaten-refused, beaten-in, trial-is}
 use Rattle.turns.proofs.DueLaws.{table-in}
 use Rattle.walk.specs.Contract.{NodeOf, node_bytes, indexed_bytes}
-use Rattle.walk.specs.UnionContract.{EitherNode, Going, TurnPassed, Steps, Turning, ended_of}
+use Rattle.walk.specs.UnionContract.{EitherNode, Going, TurnPassed, Steps, Turning}
 use Rattle.walk.specs.declared.Step.{Step}
 use Rattle.walk.specs.declared.Walk.{Walk}
 
@@ -56,22 +58,22 @@ sixth-on k o y h l = go y l
     go (b ∷ ys) l = let z : k ≡ 5 = omega arith in drop_at (take k o) (b ∷ ys) 5 (tk ∙ z)
 
 -- a variant's bytes behind its index
-union-bytes : (x : Outcome) (i : ℕ) (o o' : List ℕ) (m n : ℕ) → Wrote (encoded x) o (Accepted m) → ((c : List ℕ) → Built c o m → Built (10 ∷ bytes_of 4 i ++ c) o' n) → Wrote (encoded (x >>= (λ r. ok (Value.Union i r)))) o' (Accepted n)
+union-bytes : (x : Outcome) (i : ℕ) (o o' : List ℕ) (m n : ℕ) → Wrote (encoded x) o (Ok m) → ((c : List ℕ) → Built c o m → Built (10 ∷ bytes_of 4 i ++ c) o' n) → Wrote (encoded (x >>= (λ r. ok (Value.Union i r)))) o' (Ok n)
 unfolding Wrote encoded after encode_value
 union-bytes (ok v) i o o' m n w f = f (encode_value v) w
 union-bytes (stop e) i o o' m n w f = absurd w
 
-union-refused : (x : Outcome) (i : ℕ) (o o' : List ℕ) (e : ℕ) → Wrote (encoded x) o (Refused e) → Wrote (encoded (x >>= (λ r. ok (Value.Union i r)))) o' (Refused e)
+union-refused : (x : Outcome) (i : ℕ) (o o' : List ℕ) (e : Refusal) → Wrote (encoded x) o (Err e) → Wrote (encoded (x >>= (λ r. ok (Value.Union i r)))) o' (Err e)
 unfolding Wrote encoded after
 union-refused (ok v) i o o' e w = absurd w
 union-refused (stop n) i o o' e w = w
 
-union-accepted : (x : Outcome) (i : ℕ) (o : List ℕ) (n : ℕ) → Wrote (encoded (x >>= (λ r. ok (Value.Union i r)))) o (Accepted n) → accepted x ≡ true
+union-accepted : (x : Outcome) (i : ℕ) (o : List ℕ) (n : ℕ) → Wrote (encoded (x >>= (λ r. ok (Value.Union i r)))) o (Ok n) → accepted x ≡ true
 unfolding Wrote encoded after accepted
 union-accepted (ok v) i o n w = refl
 union-accepted (stop e) i o n w = absurd w
 
-union-not : (x : Outcome) (i : ℕ) (o : List ℕ) (e : ℕ) → Wrote (encoded (x >>= (λ r. ok (Value.Union i r)))) o (Refused e) → accepted x ≡ false
+union-not : (x : Outcome) (i : ℕ) (o : List ℕ) (e : Refusal) → Wrote (encoded (x >>= (λ r. ok (Value.Union i r)))) o (Err e) → accepted x ≡ false
 unfolding Wrote encoded after accepted
 union-not (ok v) i o e w = absurd w
 union-not (stop n) i o e w = refl
@@ -81,18 +83,18 @@ module _ (d dv : ℕ) (s v : List ℕ) (q : Ready d s) (x : Value) (u : List ℕ
   unfolding on_both
   indexed-is f = rw (q.reads, ev)
 
-  pub indexed-accepted : (k : ℕ) (o y : List ℕ) (o' : List ℕ) (m n : ℕ) → k ≡ min 5 (length o) → length y ≡ length o - k → Wrote (on_both node_bytes (read_schema d s) (read_value dv v)) y (Accepted m)
+  pub indexed-accepted : (k : ℕ) (o y : List ℕ) (o' : List ℕ) (m n : ℕ) → k ≡ min 5 (length o) → length y ≡ length o - k → Wrote (on_both node_bytes (read_schema d s) (read_value dv v)) y (Ok m)
       → ((c : List ℕ) → Built c (drop 5 (take k o ++ (y ++ drop (length o - k) (drop k o)))) m → Built (10 ∷ bytes_of 4 i ++ c) o' n)
-      → Wrote (on_both (indexed_bytes i) (read_schema d s) (read_value dv v)) o' (Accepted n)
+      → Wrote (on_both (indexed_bytes i) (read_schema d s) (read_value dv v)) o' (Ok n)
   unfolding indexed_bytes node_bytes
   indexed-accepted k o y o' m n h l w f =
       let e : drop 5 (take k o ++ (y ++ drop (length o - k) (drop k o))) ≡ y = ap (drop 5) (tail-back k o y) ∙ sixth-on k o y h l in
-      wrote-eq _ _ o' (Accepted n) (indexed-is (indexed_bytes i))
-      (union-bytes (resolve q.tree x) i y o' m n (wrote-eq _ _ y (Accepted m) (sym (indexed-is node_bytes)) w) (subst (λ z. (c : List ℕ) → Built c z m → Built (10 ∷ bytes_of 4 i ++ c) o' n) e f))
+      wrote-eq _ _ o' (Ok n) (indexed-is (indexed_bytes i))
+      (union-bytes (resolve q.tree x) i y o' m n (wrote-eq _ _ y (Ok m) (sym (indexed-is node_bytes)) w) (subst (λ z. (c : List ℕ) → Built c z m → Built (10 ∷ bytes_of 4 i ++ c) o' n) e f))
 
-  pub indexed-refused : (o o' : List ℕ) (e : ℕ) → Wrote (on_both node_bytes (read_schema d s) (read_value dv v)) o (Refused e) → Wrote (on_both (indexed_bytes i) (read_schema d s) (read_value dv v)) o' (Refused e)
+  pub indexed-refused : (o o' : List ℕ) (e : Refusal) → Wrote (on_both node_bytes (read_schema d s) (read_value dv v)) o (Err e) → Wrote (on_both (indexed_bytes i) (read_schema d s) (read_value dv v)) o' (Err e)
   unfolding indexed_bytes node_bytes
-  indexed-refused o o' e w = wrote-eq _ _ o' (Refused e) (indexed-is (indexed_bytes i)) (union-refused (resolve q.tree x) i o o' e (wrote-eq _ _ o (Refused e) (sym (indexed-is node_bytes)) w))
+  indexed-refused o o' e w = wrote-eq _ _ o' (Err e) (indexed-is (indexed_bytes i)) (union-refused (resolve q.tree x) i o o' e (wrote-eq _ _ o (Err e) (sym (indexed-is node_bytes)) w))
 
 -- ---- the union's bytes
 
@@ -102,7 +104,7 @@ unfolding peeled_bytes resolve_peeled resolve resolve_union peel union_parts
 peeled-chosen t vs ks ns x k e f = rw (e, sym f)
 
 module _ (w : Walk) (s v : List ℕ) (way : Way) (g : Going w s v way) where
-  abbrev Union : List ℕ → Answer → Type 0
+  abbrev Union : List ℕ → std.Result ℕ Refusal → Type 0
   Union o a = Wrote (on_both peeled_bytes (read_schema w.schema s) (read_value w.value v)) o a
 
   abbrev part : UnionPart w.schema s
@@ -118,30 +120,30 @@ module _ (w : Walk) (s v : List ℕ) (way : Way) (g : Going w s v way) where
       let p = union-parts w.schema s part.schema.tree part.schema.rest part.schema.reads part.kind in
       on-bytes peeled_bytes ∙ peeled-chosen (tree_of g.goes) (frame.variants_of p.variants) p.kinds p.named g.tree g.goes.kind p.is g.kind ∙ ap (λ z. encoded (in_union (trials_for g.goes g.tree) z)) e
 
-  pub union-none : (o : List ℕ) → chosen_for g.goes g.tree ≡ none → Union o (Refused 16)
+  pub union-none : (o : List ℕ) → chosen_for g.goes g.tree ≡ none → Union o (Err NoVariant)
   unfolding in_union encoded
-  union-none o e = wrote-eq _ _ o (Refused 16) (union-is none e) (wrote-refused 16 o)
+  union-none o e = wrote-eq _ _ o (Err NoVariant) (union-is none e) (wrote-refused NoVariant o)
 
   -- ---- a variant
 
   module _ (i at : ℕ) (p : VariantAt w.schema s i at) (h : i < count_of (tree_of g.goes)) where
-    abbrev Variant : List ℕ → Answer → Type 0
+    abbrev Variant : List ℕ → std.Result ℕ Refusal → Type 0
     Variant o a = Wrote (on_both (indexed_bytes i) (read_schema (w.schema - 1) (drop at s)) (read_value w.value v)) o a
 
     variant_is : on_both (indexed_bytes i) (read_schema (w.schema - 1) (drop at s)) (read_value w.value v) ≡ encoded (in_union (trials_for g.goes g.tree) (some i))
     unfolding on_both indexed_bytes in_union
     variant_is = rw ((variant-read w.schema s part i at p h).1, g.reads) (ap (λ (t : Trial). encoded (t.outcome >>= (λ r. ok (Value.Union i r)))) (sym (trial-is g.goes g.tree i h)))
 
-    pub variant-chosen : (o : List ℕ) (a : Answer) → chosen_for g.goes g.tree ≡ some i → Variant o a → Union o a
+    pub variant-chosen : (o : List ℕ) (a : std.Result ℕ Refusal) → chosen_for g.goes g.tree ≡ some i → Variant o a → Union o a
     variant-chosen o a e x = wrote-eq _ _ o a (union-is (some i) e ∙ sym variant_is) x
 
-    pub variant-accepted : (o : List ℕ) (n : ℕ) → Variant o (Accepted n) → resolves g.goes g.tree i ≡ true
+    pub variant-accepted : (o : List ℕ) (n : ℕ) → Variant o (Ok n) → resolves g.goes g.tree i ≡ true
     unfolding in_union
-    variant-accepted o n x = union-accepted (get_or (trials_for g.goes g.tree) i no_trial).outcome i o n (wrote-eq _ _ o (Accepted n) (sym variant_is) x)
+    variant-accepted o n x = union-accepted (get_or (trials_for g.goes g.tree) i no_trial).outcome i o n (wrote-eq _ _ o (Ok n) (sym variant_is) x)
 
-    pub variant-refused : (o : List ℕ) (e : ℕ) → Variant o (Refused e) → resolves g.goes g.tree i ≡ false
+    pub variant-refused : (o : List ℕ) (e : Refusal) → Variant o (Err e) → resolves g.goes g.tree i ≡ false
     unfolding in_union
-    variant-refused o e x = union-not (get_or (trials_for g.goes g.tree) i no_trial).outcome i o e (wrote-eq _ _ o (Refused e) (sym variant_is) x)
+    variant-refused o e x = union-not (get_or (trials_for g.goes g.tree) i no_trial).outcome i o e (wrote-eq _ _ o (Err e) (sym variant_is) x)
 
     -- what a test of the variant's kind says of its trial
     pub kind-told : (f : Bool → Bool) (b : Bool) → OnRead (λ t. b ≡ f (must_be_tried (schema_kind t))) (read_schema (w.schema - 1) (drop at s)) → f (must_be_tried (get_or (trials_for g.goes g.tree) i no_trial).kind) ≡ b
@@ -152,18 +154,24 @@ module _ (w : Walk) (s v : List ℕ) (way : Way) (g : Going w s v way) where
 -- ---- one turn
 
 module _ (w : Walk) (s v : List ℕ) (way : Way) (turn : Turn) (position place : ℕ) (t : Turning w s v way turn position place) where
-  pub turn-over : (o : List ℕ) → Tells t.going.goes turn Due.Over → Steps w s v way turn o (Step.Refused 16)
+  pub turn-over : (o : List ℕ) → Tells t.going.goes turn Due.Over → Steps w s v way turn o (Step.Ended (Err NoVariant))
   unfolding Tells Steps
   turn-over o e = union-none w s v way t.going o (none-chosen t.going.goes t.going.tree turn t.known e)
 
-  pub turn-skipped : (o : List ℕ) (i at : ℕ) → Tells t.going.goes turn (Due.Not i at) → Steps w s v way turn o (Step.Passed i at)
+  pub turn-skipped : (o : List ℕ) (p : Spot) → Tells t.going.goes turn (Due.Not p) → Steps w s v way turn o (Step.Passed p)
   unfolding Tells Steps
-  turn-skipped o i at e = record {
+  turn-skipped o p e = record {
     turning = record { going = t.going; there = e.0; known = t.known };
     passes = skips-pass t.going.goes t.going.tree turn t.known e.1;
   }
 
-  module _ (i at : ℕ) (e : Tells t.going.goes turn (Due.At i at)) where
+  module _ (p : Spot) (e : Tells t.going.goes turn (Due.At p)) where
+    abbrev i : ℕ
+    i = p.position
+
+    abbrev at : ℕ
+    at = p.at
+
     pub due_below : i < count_of (tree_of t.going.goes)
     unfolding Tells
     due_below = e.0
@@ -172,12 +180,12 @@ module _ (w : Walk) (s v : List ℕ) (way : Way) (turn : Turn) (position place :
     unfolding Tells
     due-there = e.1.0
 
-    pub turn-accepted : (o : List ℕ) (n : ℕ) → Wrote (on_both (indexed_bytes i) (read_schema (w.schema - 1) (drop at s)) (read_value w.value v)) o (Accepted n) → (f : Found) → f ≡ table_before way.table i turn → f ≡ Found.Nothing → Steps w s v way turn o (Step.Accepted n)
+    pub turn-accepted : (o : List ℕ) (n : ℕ) → Wrote (on_both (indexed_bytes i) (read_schema (w.schema - 1) (drop at s)) (read_value w.value v)) o (Ok n) → (f : std.Option ℕ) → f ≡ table_before way.table i turn → f ≡ None → Steps w s v way turn o (Step.Ended (Ok n))
     unfolding Tells Steps
-    turn-accepted o n x f a b = variant-chosen w s v way t.going i at e.1.0 e.0 o (Accepted n)
+    turn-accepted o n x f a b = variant-chosen w s v way t.going i at e.1.0 e.0 o (Ok n)
         (accepted-chosen t.going.goes t.going.tree turn i e.0 t.known e.1.1 (variant-accepted w s v way t.going i at e.1.0 e.0 o n x) (sym a ∙ b)) x
 
-    pub turn-beaten : (o : List ℕ) (n u : ℕ) → Wrote (on_both (indexed_bytes i) (read_schema (w.schema - 1) (drop at s)) (read_value w.value v)) o (Accepted n) → (f : Found) → f ≡ table_before way.table i turn → f ≡ Found.At u → EitherNode w s v u i
+    pub turn-beaten : (o : List ℕ) (n u : ℕ) → Wrote (on_both (indexed_bytes i) (read_schema (w.schema - 1) (drop at s)) (read_value w.value v)) o (Ok n) → (f : std.Option ℕ) → f ≡ table_before way.table i turn → f ≡ Some u → EitherNode w s v u i
     unfolding Tells
     turn-beaten o n u x f a b = record {
       way = way;
@@ -185,23 +193,18 @@ module _ (w : Walk) (s v : List ℕ) (way : Way) (turn : Turn) (position place :
       beaten = beaten t.going.goes t.going.tree turn i u t.known e.1.1 (variant-accepted w s v way t.going i at e.1.0 e.0 o n x) (sym a ∙ b);
     }
 
-    module _ (o : List ℕ) (m : ℕ) (x : Wrote (on_both (indexed_bytes i) (read_schema (w.schema - 1) (drop at s)) (read_value w.value v)) o (Refused m)) (b : Bool) (l : OnRead (λ t. b ≡ is_last turn (must_be_tried (schema_kind t))) (read_schema (w.schema - 1) (drop at s))) where
-      pub turn_last : b ≡ true → Steps w s v way turn o (Step.Refused m)
+    module _ (o : List ℕ) (m : Refusal) (x : Wrote (on_both (indexed_bytes i) (read_schema (w.schema - 1) (drop at s)) (read_value w.value v)) o (Err m)) (b : Bool) (l : OnRead (λ t. b ≡ is_last turn (must_be_tried (schema_kind t))) (read_schema (w.schema - 1) (drop at s))) where
+      pub turn_last : b ≡ true → Steps w s v way turn o (Step.Ended (Err m))
       unfolding Tells Steps
-      turn_last f = variant-chosen w s v way t.going i at e.1.0 e.0 o (Refused m)
+      turn_last f = variant-chosen w s v way t.going i at e.1.0 e.0 o (Err m)
           (last-chosen t.going.goes t.going.tree turn i t.known e.1.1 (kind-told w s v way t.going i at e.1.0 e.0 (is_last turn) b l ∙ f)) x
 
-      pub turn-refused : b ≡ false → Steps w s v way turn o (Step.Passed i at)
+      pub turn-refused : b ≡ false → Steps w s v way turn o (Step.Passed p)
       unfolding Tells Steps
       turn-refused f = record {
         turning = record { going = t.going; there = e.1.0; known = t.known };
         passes = refused-pass t.going.goes t.going.tree turn i e.0 e.1.1 (variant-refused w s v way t.going i at e.1.0 e.0 o m x) (kind-told w s v way t.going i at e.1.0 e.0 (is_last turn) b l ∙ f);
       }
-
-pub turn-ended : (w : Walk) (s v : List ℕ) (way : Way) (turn : Turn) (o : List ℕ) (a : Answer) → Wrote (on_both peeled_bytes (read_schema w.schema s) (read_value w.value v)) o a → (r : Step) → r ≡ ended_of a → Steps w s v way turn o r
-unfolding Steps ended_of
-turn-ended w s v way turn o (Accepted n) x r e = subst (Steps w s v way turn o) (sym e) x
-turn-ended w s v way turn o (Refused n) x r e = subst (Steps w s v way turn o) (sym e) x
 
 -- ---- one turn after another
 
@@ -240,16 +243,16 @@ module _ (w : Walk) (s v : List ℕ) (u i : ℕ) (b : EitherNode w s v u i) wher
   behind-named = beaten-in b.going.goes b.going.tree u i b.beaten
 
   module _ (p : ℕ) (a : VariantAt w.schema s u p) where
-    pub either-accepted : (o : List ℕ) (n : ℕ) → Wrote (on_both (indexed_bytes u) (read_schema (w.schema - 1) (drop p s)) (read_value w.value v)) o (Accepted n) → Wrote (on_both peeled_bytes (read_schema w.schema s) (read_value w.value v)) o (Accepted n)
-    either-accepted o n x = variant-chosen w s v b.way b.going u p a behind-table o (Accepted n)
+    pub either-accepted : (o : List ℕ) (n : ℕ) → Wrote (on_both (indexed_bytes u) (read_schema (w.schema - 1) (drop p s)) (read_value w.value v)) o (Ok n) → Wrote (on_both peeled_bytes (read_schema w.schema s) (read_value w.value v)) o (Ok n)
+    either-accepted o n x = variant-chosen w s v b.way b.going u p a behind-table o (Ok n)
         (beaten-accepted b.going.goes b.going.tree u i b.beaten (variant-accepted w s v b.way b.going u p a behind-table o n x)) x
 
-    module _ (o : List ℕ) (n : ℕ) (x : Wrote (on_both (indexed_bytes u) (read_schema (w.schema - 1) (drop p s)) (read_value w.value v)) o (Refused n)) (c : Bool) (l : OnRead (λ t. c ≡ must_be_tried (schema_kind t)) (read_schema (w.schema - 1) (drop p s))) where
-      pub either-untried : c ≡ false → Wrote (on_both peeled_bytes (read_schema w.schema s) (read_value w.value v)) o (Refused n)
-      either-untried f = variant-chosen w s v b.way b.going u p a behind-table o (Refused n)
+    module _ (o : List ℕ) (n : Refusal) (x : Wrote (on_both (indexed_bytes u) (read_schema (w.schema - 1) (drop p s)) (read_value w.value v)) o (Err n)) (c : Bool) (l : OnRead (λ t. c ≡ must_be_tried (schema_kind t)) (read_schema (w.schema - 1) (drop p s))) where
+      pub either-untried : c ≡ false → Wrote (on_both peeled_bytes (read_schema w.schema s) (read_value w.value v)) o (Err n)
+      either-untried f = variant-chosen w s v b.way b.going u p a behind-table o (Err n)
           (beaten-untried b.going.goes b.going.tree u i b.beaten (kind-told w s v b.way b.going u p a behind-table (λ y. y) c l ∙ f)) x
 
-      pub either-named : c ≡ true → (q : ℕ) → VariantAt w.schema s i q → (o' : List ℕ) (r : Answer) → Wrote (on_both (indexed_bytes i) (read_schema (w.schema - 1) (drop q s)) (read_value w.value v)) o' r
+      pub either-named : c ≡ true → (q : ℕ) → VariantAt w.schema s i q → (o' : List ℕ) (r : std.Result ℕ Refusal) → Wrote (on_both (indexed_bytes i) (read_schema (w.schema - 1) (drop q s)) (read_value w.value v)) o' r
           → Wrote (on_both peeled_bytes (read_schema w.schema s) (read_value w.value v)) o' r
       either-named f q z o' r y = variant-chosen w s v b.way b.going i q z behind-named o' r
           (beaten-refused b.going.goes b.going.tree u i b.beaten (kind-told w s v b.way b.going u p a behind-table (λ y. y) c l ∙ f) (variant-refused w s v b.way b.going u p a behind-table o n x)) y
@@ -272,6 +275,6 @@ turning-within w s v way (Turn.Any i) position at p b =
     let q = p.turning.going.goes.part in omega (arith, p.turning.known.0, part_count w.schema s q, number_at-< s 1 2 (part-long w.schema s q) (get_or-all_bytes s b))
 
 -- a turn that passed
-pub passed-of : (w : Walk) (s v : List ℕ) (way : Way) (turn : Turn) (o : List ℕ) (i at : ℕ) → Steps w s v way turn o (Step.Passed i at) → TurnPassed w s v way turn i at
+pub passed-of : (w : Walk) (s v : List ℕ) (way : Way) (turn : Turn) (o : List ℕ) (p : Spot) → Steps w s v way turn o (Step.Passed p) → TurnPassed w s v way turn p.position p.at
 unfolding Steps
-passed-of w s v way turn o i at h = h
+passed-of w s v way turn o p h = h

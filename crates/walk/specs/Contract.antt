@@ -1,5 +1,6 @@
 -- What resolution over parts of frames requires, and what its answers say.
-use Rattle.std.specs.Prelude.{ℕ, ◌<◌, ◌≡◌, List, ◌++◌, Bool, T, get_or}
+use Rattle.std.specs.Prelude as std
+use Rattle.std.specs.Prelude.{ℕ, ◌<◌, ◌≡◌, List, ◌++◌, T, get_or}
 use Rattle.std.proofs.Math.Option.{Option, some}
 use Rattle.base.specs.Base.{Result, ok, after, ◌>>=◌}
 use Rattle.text.specs.Text.{Text}
@@ -62,20 +63,20 @@ pub record KeyedNode (w : Walk) (s v : List ℕ) : Type 0 where
   pub kind : get_or s 0 0 ≡ 11
   pub keyed : Keyed v
 
--- the same, with the names of the entries marked or not
-pub record FieldsNode (w : Walk) (s v : List ℕ) (marked : Bool) (names : List ℕ) : Type 0 where
+-- the same, with a table of the names of the entries or none
+pub record FieldsNode (w : Walk) (s v : List ℕ) (marks : std.Option (List ℕ)) : Type 0 where
   pub schema : Ready w.schema s
   pub value : Reads (read_value w.value v)
   pub kind : get_or s 0 0 ≡ 11
   pub keyed : Keyed v
-  pub marks : Marked marked names w.value v
+  pub told : Marked marks w.value v
 
 -- a field, and the Record or Map that it is looked for in
-pub record FieldNode (w : Walk) (s v : List ℕ) (marked : Bool) (names : List ℕ) : Type 0 where
+pub record FieldNode (w : Walk) (s v : List ℕ) (marks : std.Option (List ℕ)) : Type 0 where
   pub field : ReadyField w.schema s
   pub value : Reads (read_value w.value v)
   pub keyed : Keyed v
-  pub marks : Marked marked names w.value v
+  pub told : Marked marks w.value v
 
 -- a union's variant of position i
 pub record VariantNode (w : Walk) (s v : List ℕ) (i : ℕ) : Type 0 where

@@ -6,8 +6,6 @@ use Rattle.frame.specs.ValueFrame.{read_value}
 use Rattle.frame.specs.SchemaFrame.{read_schema}
 use Rattle.types.specs.Contract.{on_both}
 use Rattle.buffer.specs.Built.{Wrote}
-use Rattle.buffer.specs.declared.Answer.{Answer}
-use Rattle.buffer.specs.declared.Answer.TheVariants.{Accepted, Refused}
 use Rattle.leaf.specs.Leaf.{peeled_bytes}
 use Rattle.variants.specs.Ways.{VariantAt}
 use Rattle.turns.specs.Turns.{Beaten, Goes, ToldBefore, Passes}
@@ -37,16 +35,11 @@ pub record TurnPassed (w : Walk) (s v : List ℕ) (way : Way) (turn : Turn) (pos
 
 -- the union's answer, or that the turn passed
 unfoldable pub Steps : Walk → List ℕ → List ℕ → Way → Turn → List ℕ → Step → Type 0
-Steps w s v way turn o (Step.Accepted n) = Wrote (on_both peeled_bytes (read_schema w.schema s) (read_value w.value v)) o (Accepted n)
-Steps w s v way turn o (Step.Refused e) = Wrote (on_both peeled_bytes (read_schema w.schema s) (read_value w.value v)) o (Refused e)
-Steps w s v way turn o (Step.Passed i at) = TurnPassed w s v way turn i at
+Steps w s v way turn o (Step.Ended r) = Wrote (on_both peeled_bytes (read_schema w.schema s) (read_value w.value v)) o r
+Steps w s v way turn o (Step.Passed p) = TurnPassed w s v way turn p.position p.at
 
 -- the first named position that is taken is i, behind the table's u
 pub record EitherNode (w : Walk) (s v : List ℕ) (u i : ℕ) : Type 0 where
   pub way : Way
   pub going : Going w s v way
   pub beaten : Beaten going.goes going.tree u i
-
-unfoldable pub ended_of : Answer → Step
-ended_of (Accepted n) = Step.Accepted n
-ended_of (Refused e) = Step.Refused e

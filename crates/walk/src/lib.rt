@@ -3,19 +3,19 @@
 // lent, as far as it fits, and answers the result's whole length or the refusal.
 #![tactic(auto)]
 
-ghost use Rattle.std.specs.Prelude.{◌≡◌, ◌-◌};
+ghost use Rattle.std.specs.Prelude.{◌≡◌, ◌-◌, option_copied};
 ghost use Rattle.frame.specs.ValueFrame.{read_entry, read_value};
 ghost use Rattle.frame.specs.SchemaFrame.{read_field, read_schema};
 ghost use Rattle.buffer.specs.Built.{Wrote};
 ghost use Rattle.types.specs.Contract.{on_both};
 ghost use Rattle.leaf.specs.Leaf.{peeled_bytes};
 ghost use Rattle.walk.specs.Contract.{EntryNode, FieldNode, FieldsNode, KeyedNode, Node, NodeOf, ReadyDefault, VariantNode, default_bytes, entry_bytes, field_bytes, indexed_bytes, node_bytes};
-ghost use Rattle.walk.specs.UnionContract.{EitherNode, Steps, Turning, ended_of};
+ghost use Rattle.walk.specs.UnionContract.{EitherNode, Steps, Turning};
 
-use base::refusal;
-use buffer::{Answer, joined, put, room};
+use base::refusal::Refusal;
+use buffer::{joined, put, room};
 use field::{field_at, field_reach};
-use find::{Found, find_in, mark, peel};
+use find::{find_in, mark, peel};
 use frame::kind;
 use leaf::resolve_leaf;
 use turns::{Due, Spot, Turn, Way, due_of, is_last, next, table_before, way_of};
@@ -29,16 +29,15 @@ pub struct Walk {
     pub value: usize,
 }
 
-// What a turn of a union came to: the union's result or refusal, or that the turn passed, with the last variant gone to.
+// What a turn of a union came to: the union's answer, or that the turn passed, with the last variant gone to.
 #[derive(Clone, Copy)]
 pub enum Step {
-    Accepted(usize),
-    Refused(u8),
-    Passed(usize, usize),
+    Ended(Result<usize, Refusal>),
+    Passed(Spot),
 }
 
 #[cycle(walking)]
-pub fn resolve_node(w: Walk, s: &[u8], v: &[u8], out: &mut [u8]) -> Answer
+pub fn resolve_node(w: Walk, s: &[u8], v: &[u8], out: &mut [u8]) -> Result<usize, Refusal>
     requires { Node w s.now v.now }
     ensures { Wrote (on_both node_bytes (read_schema w.schema s.now) (read_value w.value v.now)) out.new result }
 {
@@ -48,161 +47,141 @@ pub fn resolve_node(w: Walk, s: &[u8], v: &[u8], out: &mut [u8]) -> Answer
         schema: w.schema,
         value: p.depth,
     };
-    let k = s[0];
-    if k == kind::ARRAY {
-        return resolve_array(inner, s, &v[at..], out);
+    match s[0] {
+        kind::ARRAY => resolve_array(inner, s, &v[at..], out),
+        kind::MAP => resolve_map(inner, s, &v[at..], out),
+        kind::UNION => resolve_union(inner, s, &v[at..], out),
+        kind::RECORD => resolve_record(inner, s, &v[at..], out),
+        _ => resolve_leaf(s, &v[at..], out, inner.schema, inner.value),
     }
-    if k == kind::MAP {
-        return resolve_map(inner, s, &v[at..], out);
-    }
-    if k == kind::UNION {
-        return resolve_union(inner, s, &v[at..], out);
-    }
-    if k == kind::RECORD {
-        return resolve_record(inner, s, &v[at..], out);
-    }
-    resolve_leaf(s, &v[at..], out, inner.schema, inner.value)
 }
 
 #[cycle(walking)]
-fn resolve_array(w: Walk, s: &[u8], v: &[u8], out: &mut [u8]) -> Answer
+fn resolve_array(w: Walk, s: &[u8], v: &[u8], out: &mut [u8]) -> Result<usize, Refusal>
     requires { NodeOf 8 w s.now v.now }
     ensures { Wrote (on_both peeled_bytes (read_schema w.schema s.now) (read_value w.value v.now)) out.new result }
 {
     if v[0] != kind::ARRAY {
-        return Answer::Refused(refusal::UNSUITED);
+        return Err(Refusal::Unsuited);
     }
     let below = Walk {
         schema: w.schema - 1,
         value: w.value - 1,
     };
-    let mut left = number::read2(v, 1);
     let mut at = put(out, &v[..3]);
-    let mut from: usize = 3;
-    while 0 < left {
+    let mut from = 3;
+    for _ in 0..number::read2(v, 1) {
         let to = room(at, out.len());
-        match resolve_node(below, &s[1..], &v[from..], &mut out[to..]) {
-            Answer::Accepted(m) => {
-                at = joined(at, m);
-            }
-            Answer::Refused(e) => {
-                return Answer::Refused(e);
-            }
-        }
+        let m = resolve_node(below, &s[1..], &v[from..], &mut out[to..])?;
+        at = joined(at, m);
         from += value_len(&v[from..], w.value - 1);
-        left -= 1;
     }
-    Answer::Accepted(at)
+    Ok(at)
 }
 
 #[cycle(walking)]
-fn resolve_map(w: Walk, s: &[u8], v: &[u8], out: &mut [u8]) -> Answer
+fn resolve_map(w: Walk, s: &[u8], v: &[u8], out: &mut [u8]) -> Result<usize, Refusal>
     requires { NodeOf 9 w s.now v.now }
     ensures { Wrote (on_both peeled_bytes (read_schema w.schema s.now) (read_value w.value v.now)) out.new result }
 {
     if v[0] != kind::MAP {
-        return Answer::Refused(refusal::UNSUITED);
+        return Err(Refusal::Unsuited);
     }
     let below = Walk {
         schema: w.schema - 1,
         value: w.value - 1,
     };
-    let mut left = number::read2(v, 1);
     let mut at = put(out, &v[..3]);
-    let mut from: usize = 3;
-    while 0 < left {
+    let mut from = 3;
+    for _ in 0..number::read2(v, 1) {
         let o = room(at, out.len());
-        match entry(below, &s[1..], &v[from..], &mut out[o..]) {
-            Answer::Accepted(m) => {
-                at = joined(at, m);
-            }
-            Answer::Refused(first) => {
-                return Answer::Refused(first);
-            }
-        }
+        let m = entry(below, &s[1..], &v[from..], &mut out[o..])?;
+        at = joined(at, m);
         from += entry_len(&v[from..], w.value - 1);
-        left -= 1;
     }
-    Answer::Accepted(at)
+    Ok(at)
 }
 
 // A map's entry: its key, and its node resolved.
 #[cycle(walking)]
-fn entry(w: Walk, s: &[u8], v: &[u8], out: &mut [u8]) -> Answer
+fn entry(w: Walk, s: &[u8], v: &[u8], out: &mut [u8]) -> Result<usize, Refusal>
     requires { EntryNode w s.now v.now }
     ensures { Wrote (on_both entry_bytes (read_schema w.schema s.now) (read_entry (read_value w.value) v.now)) out.new result }
 {
     let n = text::content(v).len() + 2;
     let at = put(out, &v[..n]);
     let o = room(at, out.len());
-    match resolve_node(w, s, &v[n..], &mut out[o..]) {
-        Answer::Accepted(m) => Answer::Accepted(joined(at, m)),
-        Answer::Refused(e) => Answer::Refused(e),
-    }
+    let m = resolve_node(w, s, &v[n..], &mut out[o..])?;
+    Ok(joined(at, m))
 }
 
 #[cycle(walking)]
-fn resolve_record(w: Walk, s: &[u8], v: &[u8], out: &mut [u8]) -> Answer
+fn resolve_record(w: Walk, s: &[u8], v: &[u8], out: &mut [u8]) -> Result<usize, Refusal>
     requires { NodeOf 11 w s.now v.now }
     ensures { Wrote (on_both peeled_bytes (read_schema w.schema s.now) (read_value w.value v.now)) out.new result }
 {
-    if v[0] == kind::RECORD {
-        return keyed(w, s, v, out);
+    match v[0] {
+        kind::RECORD => keyed(w, s, v, out),
+        kind::MAP => keyed(w, s, v, out),
+        _ => Err(Refusal::Unsuited),
     }
-    if v[0] == kind::MAP {
-        return keyed(w, s, v, out);
-    }
-    Answer::Refused(refusal::UNSUITED)
 }
 
 // A Record or a Map against a record schema. Where it has many entries, their names are marked, to be found at once.
 #[cycle(walking)]
-fn keyed(w: Walk, s: &[u8], v: &[u8], out: &mut [u8]) -> Answer
+fn keyed(w: Walk, s: &[u8], v: &[u8], out: &mut [u8]) -> Result<usize, Refusal>
     requires { KeyedNode w s.now v.now }
     ensures { Wrote (on_both peeled_bytes (read_schema w.schema s.now) (read_value w.value v.now)) out.new result }
 {
     if number::read2(v, 1) <= 8 {
-        let none = [0u16; 1];
-        return fields(w, s, v, out, &none, false);
+        return fields(w, s, v, out, None);
     }
     let mut names = [0u16; 2560];
-    let marked = mark(v, w.value, &mut names);
-    fields(w, s, v, out, &names, marked)
+    if mark(v, w.value, &mut names) {
+        fields(w, s, v, out, Some(&names))
+    } else {
+        fields(w, s, v, out, None)
+    }
 }
 
 // The fields of a record schema, for a Record or a Map.
 #[cycle(walking)]
-fn fields(w: Walk, s: &[u8], v: &[u8], out: &mut [u8], names: &[u16], marked: bool) -> Answer
-    requires { FieldsNode w s.now v.now marked names.now }
+fn fields(
+    w: Walk,
+    s: &[u8],
+    v: &[u8],
+    out: &mut [u8],
+    marks: Option<&[u16]>,
+) -> Result<usize, Refusal>
+    requires { FieldsNode w s.now v.now (option_copied marks) }
     ensures { Wrote (on_both peeled_bytes (read_schema w.schema s.now) (read_value w.value v.now)) out.new result }
 {
     let below = Walk {
         schema: w.schema - 1,
         value: w.value,
     };
-    let mut left = number::read2(s, 1);
+    let count = number::read2(s, 1);
     let mut at = put(out, &s[..3]);
-    let mut from: usize = 3;
-    while 0 < left {
+    let mut from = 3;
+    for i in 0..count {
         let o = room(at, out.len());
-        match one_field(below, &s[from..], v, &mut out[o..], names, marked) {
-            Answer::Accepted(m) => {
-                at = joined(at, m);
-            }
-            Answer::Refused(e) => {
-                return Answer::Refused(e);
-            }
-        }
-        from += field_reach(&s[from..], w.schema - 1, left);
-        left -= 1;
+        let m = one_field(below, &s[from..], v, &mut out[o..], marks)?;
+        at = joined(at, m);
+        from += field_reach(&s[from..], w.schema - 1, count - i);
     }
-    Answer::Accepted(at)
+    Ok(at)
 }
 
 // One field: its name, and the last value under it or its default.
 #[cycle(walking)]
-fn one_field(w: Walk, s: &[u8], v: &[u8], out: &mut [u8], names: &[u16], marked: bool) -> Answer
-    requires { FieldNode w s.now v.now marked names.now }
+fn one_field(
+    w: Walk,
+    s: &[u8],
+    v: &[u8],
+    out: &mut [u8],
+    marks: Option<&[u16]>,
+) -> Result<usize, Refusal>
+    requires { FieldNode w s.now v.now (option_copied marks) }
     ensures { Wrote (on_both field_bytes (read_field (read_schema w.schema) s.now) (read_value w.value v.now)) out.new result }
 {
     let name = text::content(s);
@@ -211,33 +190,28 @@ fn one_field(w: Walk, s: &[u8], v: &[u8], out: &mut [u8], names: &[u16], marked:
     let o = room(at, out.len());
     let f = field_at(s, w.schema);
     let schema = f.schema_at;
-    match find_in(v, name, w.value, names, marked) {
-        Found::At(p) => {
+    match find_in(v, name, w.value, marks) {
+        Some(p) => {
             let inner = Walk {
                 schema: w.schema,
                 value: w.value - 1,
             };
-            match resolve_node(inner, &s[schema..], &v[p..], &mut out[o..]) {
-                Answer::Accepted(m) => Answer::Accepted(joined(at, m)),
-                Answer::Refused(e) => Answer::Refused(e),
-            }
+            let m = resolve_node(inner, &s[schema..], &v[p..], &mut out[o..])?;
+            Ok(joined(at, m))
         }
-        Found::Nothing => {
-            if !f.default {
-                return Answer::Refused(refusal::FIELD_MISSING);
-            }
-            let d = f.default_at;
-            match default(w, &s[schema..], &s[d..], &mut out[o..]) {
-                Answer::Accepted(m) => Answer::Accepted(joined(at, m)),
-                Answer::Refused(e) => Answer::Refused(e),
-            }
+        None => {
+            let Some(d) = f.default else {
+                return Err(Refusal::FieldMissing);
+            };
+            let made = default(w, &s[schema..], &s[d..], &mut out[o..])?;
+            Ok(joined(at, made))
         }
     }
 }
 
 // A field's default: in a union field it goes to the first variant, and the union is resolved anew.
 #[cycle(walking)]
-fn default(w: Walk, s: &[u8], d: &[u8], out: &mut [u8]) -> Answer
+fn default(w: Walk, s: &[u8], d: &[u8], out: &mut [u8]) -> Result<usize, Refusal>
     requires { ReadyDefault w.schema s.now d.now }
     ensures { Wrote (on_both default_bytes (read_schema w.schema s.now) (read_value 16 d.now)) out.new result }
 {
@@ -262,45 +236,31 @@ fn default(w: Walk, s: &[u8], d: &[u8], out: &mut [u8]) -> Answer
         schema: inner,
         value: 16,
     };
-    match resolve_node(variant, &s[3..], d, &mut first) {
-        Answer::Accepted(_) => {
-            let made = Walk {
-                schema: w.schema,
-                value: inner,
-            };
-            resolve_union(made, s, &first, out)
-        }
-        Answer::Refused(e) => Answer::Refused(e),
-    }
+    resolve_node(variant, &s[3..], d, &mut first)?;
+    let made = Walk {
+        schema: w.schema,
+        value: inner,
+    };
+    resolve_union(made, s, &first, out)
 }
 
 // A union: its variants have their turns until one is the answer.
 #[cycle(walking)]
-fn resolve_union(w: Walk, s: &[u8], v: &[u8], out: &mut [u8]) -> Answer
+fn resolve_union(w: Walk, s: &[u8], v: &[u8], out: &mut [u8]) -> Result<usize, Refusal>
     requires { NodeOf 10 w s.now v.now }
     ensures { Wrote (on_both peeled_bytes (read_schema w.schema s.now) (read_value w.value v.now)) out.new result }
 {
     let way = way_of(s, v[0], w.schema);
     let mut turn = Turn::Before(0);
-    let mut position: usize = 0;
-    let mut at: usize = 3;
-    let found = loop {
-        let spot = Spot { position, at };
+    let mut spot = Spot { position: 0, at: 3 };
+    // A loop: how many turns pass before one is the answer is not known.
+    loop {
         match take_turn(w, s, v, out, way, turn, spot) {
-            Step::Accepted(n) => {
-                break Answer::Accepted(n);
-            }
-            Step::Refused(e) => {
-                break Answer::Refused(e);
-            }
-            Step::Passed(i, p) => {
-                position = i;
-                at = p;
-            }
+            Step::Ended(answer) => return answer,
+            Step::Passed(to) => spot = to,
         }
         turn = next(way, turn);
-    };
-    found
+    }
 }
 
 // One turn: the variant that is due is tried, and is the answer if it stands and no other comes before it. Of the kind table's
@@ -311,23 +271,24 @@ fn take_turn(w: Walk, s: &[u8], v: &[u8], out: &mut [u8], way: Way, turn: Turn, 
     ensures { Steps w s.now v.now way turn out.new result }
 {
     match due_of(s, w.schema, way, turn, spot) {
-        Due::Over => Step::Refused(refusal::NO_VARIANT),
-        Due::Not(i, at) => Step::Passed(i, at),
-        Due::At(i, at) => {
+        Due::Over => Step::Ended(Err(Refusal::NoVariant)),
+        Due::Not(spot) => Step::Passed(spot),
+        Due::At(spot) => {
             let inner = Walk {
                 schema: w.schema - 1,
                 value: w.value,
             };
-            match indexed(inner, &s[at..], v, out, i) {
-                Answer::Accepted(n) => match table_before(way, i, turn) {
-                    Found::Nothing => Step::Accepted(n),
-                    Found::At(u) => ended(either(w, s, v, out, u, i)),
+            let at = spot.at;
+            match indexed(inner, &s[at..], v, out, spot.position) {
+                Ok(n) => match table_before(way, spot.position, turn) {
+                    None => Step::Ended(Ok(n)),
+                    Some(u) => Step::Ended(either(w, s, v, out, u, spot.position)),
                 },
-                Answer::Refused(e) => {
+                Err(e) => {
                     if is_last(&s[at..], w.schema - 1, turn) {
-                        return Step::Refused(e);
+                        return Step::Ended(Err(e));
                     }
-                    Step::Passed(i, at)
+                    Step::Passed(spot)
                 }
             }
         }
@@ -336,20 +297,18 @@ fn take_turn(w: Walk, s: &[u8], v: &[u8], out: &mut [u8], way: Way, turn: Turn, 
 
 // A variant, its result written behind the index i.
 #[cycle(walking)]
-fn indexed(w: Walk, s: &[u8], v: &[u8], out: &mut [u8], i: usize) -> Answer
+fn indexed(w: Walk, s: &[u8], v: &[u8], out: &mut [u8], i: usize) -> Result<usize, Refusal>
     requires { VariantNode w s.now v.now i }
     ensures { Wrote (on_both (indexed_bytes i) (read_schema w.schema s.now) (read_value w.value v.now)) out.new result }
 {
     let o = room(5, out.len());
-    match resolve_node(w, s, v, &mut out[o..]) {
-        Answer::Accepted(m) => Answer::Accepted(put_index(out, i, m)),
-        Answer::Refused(e) => Answer::Refused(e),
-    }
+    let m = resolve_node(w, s, v, &mut out[o..])?;
+    Ok(put_index(out, i, m))
 }
 
 // The kind table's variant u, where the named one i behind it resolves: i is taken only if u must be tried and does not stand.
 #[cycle(walking)]
-fn either(w: Walk, s: &[u8], v: &[u8], out: &mut [u8], u: usize, i: usize) -> Answer
+fn either(w: Walk, s: &[u8], v: &[u8], out: &mut [u8], u: usize, i: usize) -> Result<usize, Refusal>
     requires { EitherNode w s.now v.now u i }
     ensures { Wrote (on_both peeled_bytes (read_schema w.schema s.now) (read_value w.value v.now)) out.new result }
 {
@@ -359,23 +318,13 @@ fn either(w: Walk, s: &[u8], v: &[u8], out: &mut [u8], u: usize, i: usize) -> An
     };
     let p = variant_at(s, u, w.schema);
     match indexed(inner, &s[p..], v, out, u) {
-        Answer::Accepted(n) => Answer::Accepted(n),
-        Answer::Refused(e) => {
+        Ok(n) => Ok(n),
+        Err(e) => {
             if !is_tried(&s[p..], w.schema - 1) {
-                return Answer::Refused(e);
+                return Err(e);
             }
             let q = variant_at(s, i, w.schema);
             indexed(inner, &s[q..], v, out, i)
         }
-    }
-}
-
-// The answer of a turn that ended the search.
-fn ended(a: Answer) -> Step
-    ensures { result ≡ ended_of a }
-{
-    match a {
-        Answer::Accepted(n) => Step::Accepted(n),
-        Answer::Refused(e) => Step::Refused(e),
     }
 }

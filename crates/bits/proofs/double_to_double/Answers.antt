@@ -6,4 +6,4 @@ use Rattle.bits.proofs.double_to_double.Goals as goal
 
 pub returns : goal.returns
 returns c =
-    c.content.ensures ∙ ap cast_content (c.to_double.ensures ∙ ap double_cast c.of_double.ensures) ∙ double-stays c.args.b c.ranges.b.fits
+    c.content_or_zero.ensures ∙ ap cast_content (c.to_double.ensures ∙ ap double_cast c.of_double.ensures) ∙ double-stays c.args.b c.ranges.b.fits

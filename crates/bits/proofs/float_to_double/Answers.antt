@@ -8,4 +8,4 @@ use Rattle.bits.proofs.float_to_double.Goals as goal
 pub returns : goal.returns
 unfolding double_of_float
 returns c =
-    c.content.ensures ∙ ap cast_content (c.to_double.ensures ∙ ap double_cast c.of_float.ensures) ∙ float-double c.args.b c.ranges.b.fits
+    c.content_or_zero.ensures ∙ ap cast_content (c.to_double.ensures ∙ ap double_cast c.of_float.ensures) ∙ float-double c.args.b c.ranges.b.fits

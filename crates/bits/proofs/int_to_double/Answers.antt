@@ -8,4 +8,4 @@ use Rattle.bits.proofs.int_to_double.Goals as goal
 pub returns : goal.returns
 unfolding double_of_int
 returns c =
-    c.content.ensures ∙ ap cast_content (c.to_double.ensures ∙ ap double_cast c.of_int.ensures) ∙ integer-double _
+    c.content_or_zero.ensures ∙ ap cast_content (c.to_double.ensures ∙ ap double_cast c.of_int.ensures) ∙ integer-double _

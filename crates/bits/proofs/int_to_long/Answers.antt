@@ -6,4 +6,4 @@ use Rattle.bits.proofs.int_to_long.Goals as goal
 
 pub returns : goal.returns
 returns c =
-    c.content.ensures ∙ ap cast_content (c.to_long.ensures ∙ ap long_cast c.of_int.ensures) ∙ int-long c.args.b c.ranges.b.fits
+    c.content_or_zero.ensures ∙ ap cast_content (c.to_long.ensures ∙ ap long_cast c.of_int.ensures) ∙ int-long c.args.b c.ranges.b.fits

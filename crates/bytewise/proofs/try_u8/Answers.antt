@@ -25,5 +25,5 @@ int_byte-requires c = union-reads _ _ c.requires c.if-v-eq-UNION.true _ (part_to
 pub returns-then-v-eq-UNION : goal.returns-then-v-eq-UNION
 returns-then-v-eq-UNION c = union-answer _ _ c.requires c.if-v-eq-UNION.true _ (part_to_end c.args.v.now 5) _ c.int_byte.ensures
 
-pub returns : goal.returns
-returns c = plain-answer _ _ _ (λ w r e k. c.if-v-eq-UNION.false (sym (value-kind _ _ (get_or-all_bytes _ (λ i. omega (arith, c.type_inv.v i))) w r e) ∙ k)) c.int_byte-2.ensures
+pub returns-else-v-eq-UNION : goal.returns-else-v-eq-UNION
+returns-else-v-eq-UNION c = plain-answer _ _ _ (λ w r e k. c.if-v-eq-UNION.false (sym (value-kind _ _ (get_or-all_bytes _ (λ i. omega (arith, c.type_inv.v i))) w r e) ∙ k)) c.int_byte-else-v-eq-UNION.ensures

@@ -1,77 +1,86 @@
 -- `calendar::add` meets its contract: each arm is a case of `sum`.
-use mathlib.Core.Path.{refl, sym, ap, ◌∙◌}
-use mathlib.Core.Bool.{Bool}
-use lib.IntN.{ℤ}
-use mir.Syntax.{w32, w64}
+use Rattle.std.proofs.Common.{rules, ◌≡◌, Bool, ℤ, FitsSigned, w32, w64, sym, ap, ◌∙◌}
 use mir.ValLaws.{to_z-of_z}
 use borrow.Author.Tests.{eq-eqb, ne_eqb}
+use Rattle.std.proofs.lemmas.Result.{err_from_is_err_and}
 use Rattle.base.specs.Base.{when◌then◌else◌, ok, stop, after}
-use Rattle.scalar.specs.Scalars.{time_of}
 use Rattle.scalar.specs.declared.Scalar.{Scalar}
 use Rattle.scalar.specs.declared.Scalar.TheVariants.{Date, TimestampMillis, TimestampMicros, TimestampNanos}
-use Rattle.calendar.specs.declared.Sum.TheVariants.{To}
-use Rattle.calendar.specs.Instants.{date_sum, stamp_sum, sum}
-use Rattle.calendar.specs.Answers.{dated_of, stamp_of, stamped_sum, sum_of}
-use Rattle.calendar.proofs.EntryLaws.{sum-on, no-sum-on, sum-at}
-use Rattle.calendar.proofs.OtherKinds.{no-instant}
-use borrow.Author.Rules.{rules}
+use Rattle.duration.specs.declared.Duration.{Duration}
+use Rattle.calendar.specs.Instants.{date_sum, sum}
+use Rattle.calendar.proofs.EntryLaws.{sum-on, no-sum-on}
 use Rattle.calendar.proofs.add.Goals as goal
 
+-- a Date, where no milliseconds are added
+date : (z : ℤ) (s : Scalar) (d : Duration) → s ≡ Date z → d.millis.0 ≡ 0 → after (date_sum z d) (λ r. ok (Date r)) ≡ sum s d
+date z s d e f = sym (ap (λ (x : Scalar). sum x d) e ∙ ap (λ (t : Bool). when t then after (date_sum z d) (λ r. ok (Date r)) else stop 26) (eq-eqb d.millis.0 0 f))
+
 pub returns-then-duration-ne0 : goal.returns-then-duration-ne0
-unfolding sum_of
 returns-then-duration-ne0 c =
-    let a = c.args in
-    let z = c.in-Date.z in
-    sym (ap (λ (s : Scalar). sum_of (sum s a.duration)) c.in-Date.is
-    ∙ ap (λ (t : Bool). sum_of (when t then after (date_sum z a.duration) (λ r. ok (Date r)) else stop 26)) (ne_eqb a.duration.millis.0 0 c.if-duration-ne0.true))
-
-pub returns-in-On : goal.returns-in-On
-returns-in-On c =
-    let a = c.args in
-    let d = a.duration in
-    let z = c.in-Date.z in
-    let e = c.add_date.ensures ∙ ap (λ (x : ℤ). dated_of (date_sum x d)) (to_z-of_z w32 z (record { sfits = search rules })) in
-    ap (λ (x : ℤ). To (Date x)) (to_z-of_z w32 c.in-On.n (record { sfits = search rules }))
-    ∙ sum-on Date (date_sum z d) c.in-On.n (sym e ∙ c.in-On.is)
-    ∙ sym (ap (λ (s : Scalar). sum_of (sum s d)) c.in-Date.is
-    ∙ ap (λ (t : Bool). sum_of (when t then after (date_sum z d) (λ r. ok (Date r)) else stop 26)) (eq-eqb d.millis.0 0 c.if-duration-ne0.false))
-
-pub returns-in-Refused : goal.returns-in-Refused
-returns-in-Refused c =
-    let a = c.args in
-    let d = a.duration in
-    let z = c.in-Date.z in
-    let e = c.add_date.ensures ∙ ap (λ (x : ℤ). dated_of (date_sum x d)) (to_z-of_z w32 z (record { sfits = search rules })) in
-    no-sum-on Date (date_sum z d) c.in-Refused.e (sym e ∙ c.in-Refused.is)
-    ∙ sym (ap (λ (s : Scalar). sum_of (sum s d)) c.in-Date.is
-    ∙ ap (λ (t : Bool). sum_of (when t then after (date_sum z d) (λ r. ok (Date r)) else stop 26)) (eq-eqb d.millis.0 0 c.if-duration-ne0.false))
-
-pub returns-in-TimestampMillis : goal.returns-in-TimestampMillis
-unfolding time_of
-returns-in-TimestampMillis c =
     let d = c.args.duration in
-    let z = c.in-TimestampMillis.z in
-    let e = c.add_stamp.ensures ∙ ap (λ (x : ℤ). stamp_of (stamp_sum 1 x d)) (to_z-of_z w64 z (record { sfits = search rules })) in
-    c.stamped.ensures ∙ ap (stamped_sum 0x13) e ∙ sum-at TimestampMillis 0x13 (stamp_sum 1 z d) (λ x. refl) ∙ sym (ap (λ (s : Scalar). sum_of (sum s d)) c.in-TimestampMillis.is)
+    let z = c.in-Date.z in
+    sym (ap (λ (x : Scalar). sum x d) c.in-Date.is ∙ ap (λ (t : Bool). when t then after (date_sum z d) (λ r. ok (Date r)) else stop 26) (ne_eqb d.millis.0 0 c.if-duration-ne0.true))
 
-pub returns-in-TimestampMicros : goal.returns-in-TimestampMicros
-unfolding time_of
-returns-in-TimestampMicros c =
-    let d = c.args.duration in
-    let z = c.in-TimestampMicros.z in
-    let e = c.add_stamp-in-TimestampMicros.ensures ∙ ap (λ (x : ℤ). stamp_of (stamp_sum 1000 x d)) (to_z-of_z w64 z (record { sfits = search rules })) in
-    c.stamped-in-TimestampMicros.ensures ∙ ap (stamped_sum 0x14) e ∙ sum-at TimestampMicros 0x14 (stamp_sum 1000 z d) (λ x. refl) ∙ sym (ap (λ (s : Scalar). sum_of (sum s d)) c.in-TimestampMicros.is)
+pub returns-in_err-add_date-in-Date : goal.returns-in_err-add_date-in-Date
+returns-in_err-add_date-in-Date c =
+    let r = c.from_residual in
+    let p = err_from_is_err_and r.result r.ensures.1 in
+    let f : FitsSigned w32 c.in-Date.z = search rules in
+    let e = simp to_z-of_z at c.in_err-add_date-in-Date.ensures in
+    rw (p.1, p.2) (no-sum-on Date _ _ e ∙ date c.in-Date.z _ _ c.in-Date.is c.if-duration-ne0.false)
 
-pub returns-in-TimestampNanos : goal.returns-in-TimestampNanos
-unfolding time_of
-returns-in-TimestampNanos c =
-    let d = c.args.duration in
-    let z = c.in-TimestampNanos.z in
-    let e = c.add_stamp-in-TimestampNanos.ensures ∙ ap (λ (x : ℤ). stamp_of (stamp_sum 1000000 x d)) (to_z-of_z w64 z (record { sfits = search rules })) in
-    c.stamped-in-TimestampNanos.ensures ∙ ap (stamped_sum 0x15) e ∙ sum-at TimestampNanos 0x15 (stamp_sum 1000000 z d) (λ x. refl) ∙ sym (ap (λ (s : Scalar). sum_of (sum s d)) c.in-TimestampNanos.is)
+pub returns-in_ok-add_date-in-Date : goal.returns-in_ok-add_date-in-Date
+returns-in_ok-add_date-in-Date c =
+    let k = c.in_ok-add_date-in-Date in
+    let f : FitsSigned w32 c.in-Date.z = search rules in
+    let g : FitsSigned w32 k.field-0 = search rules in
+    let e = simp to_z-of_z at k.ensures in
+    simp to_z-of_z (sum-on Date _ _ e ∙ date c.in-Date.z _ _ c.in-Date.is c.if-duration-ne0.false)
 
-pub returns-in_default : goal.returns-in_default
-unfolding sum_of
-returns-in_default c =
-    let w = c.in_default in
-    sym (ap sum_of ((no-instant c.args.instant w.not-Date w.not-TimestampMillis w.not-TimestampMicros w.not-TimestampNanos).no-sum c.args.duration))
+pub returns-in_err-add_stamp-in-TimestampMillis : goal.returns-in_err-add_stamp-in-TimestampMillis
+returns-in_err-add_stamp-in-TimestampMillis c =
+    let r = c.from_residual-in_err-add_stamp-in-TimestampMillis in
+    let p = err_from_is_err_and r.result r.ensures.1 in
+    let f : FitsSigned w64 c.in-TimestampMillis.z = search rules in
+    let e = simp to_z-of_z at c.in_err-add_stamp-in-TimestampMillis.ensures in
+    rw (p.1, p.2) (no-sum-on TimestampMillis _ _ e ∙ sym (ap (λ (s : Scalar). sum s c.args.duration) c.in-TimestampMillis.is))
+
+pub returns-in_ok-add_stamp-in-TimestampMillis : goal.returns-in_ok-add_stamp-in-TimestampMillis
+returns-in_ok-add_stamp-in-TimestampMillis c =
+    let k = c.in_ok-add_stamp-in-TimestampMillis in
+    let f : FitsSigned w64 c.in-TimestampMillis.z = search rules in
+    let g : FitsSigned w64 k.field-0 = search rules in
+    let e = simp to_z-of_z at k.ensures in
+    simp to_z-of_z (sum-on TimestampMillis _ _ e ∙ sym (ap (λ (s : Scalar). sum s c.args.duration) c.in-TimestampMillis.is))
+
+pub returns-in_err-add_stamp-in-TimestampMicros : goal.returns-in_err-add_stamp-in-TimestampMicros
+returns-in_err-add_stamp-in-TimestampMicros c =
+    let r = c.from_residual-in_err-add_stamp-in-TimestampMicros in
+    let p = err_from_is_err_and r.result r.ensures.1 in
+    let f : FitsSigned w64 c.in-TimestampMicros.z = search rules in
+    let e = simp to_z-of_z at c.in_err-add_stamp-in-TimestampMicros.ensures in
+    rw (p.1, p.2) (no-sum-on TimestampMicros _ _ e ∙ sym (ap (λ (s : Scalar). sum s c.args.duration) c.in-TimestampMicros.is))
+
+pub returns-in_ok-add_stamp-in-TimestampMicros : goal.returns-in_ok-add_stamp-in-TimestampMicros
+returns-in_ok-add_stamp-in-TimestampMicros c =
+    let k = c.in_ok-add_stamp-in-TimestampMicros in
+    let f : FitsSigned w64 c.in-TimestampMicros.z = search rules in
+    let g : FitsSigned w64 k.field-0 = search rules in
+    let e = simp to_z-of_z at k.ensures in
+    simp to_z-of_z (sum-on TimestampMicros _ _ e ∙ sym (ap (λ (s : Scalar). sum s c.args.duration) c.in-TimestampMicros.is))
+
+pub returns-in_err-add_stamp-in-TimestampNanos : goal.returns-in_err-add_stamp-in-TimestampNanos
+returns-in_err-add_stamp-in-TimestampNanos c =
+    let r = c.from_residual-in_err-add_stamp-in-TimestampNanos in
+    let p = err_from_is_err_and r.result r.ensures.1 in
+    let f : FitsSigned w64 c.in-TimestampNanos.z = search rules in
+    let e = simp to_z-of_z at c.in_err-add_stamp-in-TimestampNanos.ensures in
+    rw (p.1, p.2) (no-sum-on TimestampNanos _ _ e ∙ sym (ap (λ (s : Scalar). sum s c.args.duration) c.in-TimestampNanos.is))
+
+pub returns-in_ok-add_stamp-in-TimestampNanos : goal.returns-in_ok-add_stamp-in-TimestampNanos
+returns-in_ok-add_stamp-in-TimestampNanos c =
+    let k = c.in_ok-add_stamp-in-TimestampNanos in
+    let f : FitsSigned w64 c.in-TimestampNanos.z = search rules in
+    let g : FitsSigned w64 k.field-0 = search rules in
+    let e = simp to_z-of_z at k.ensures in
+    simp to_z-of_z (sum-on TimestampNanos _ _ e ∙ sym (ap (λ (s : Scalar). sum s c.args.duration) c.in-TimestampNanos.is))

@@ -5,7 +5,6 @@ use mir.Syntax.{w32}
 use mir.ValLaws.{to_z-of_z}
 use Rattle.calendar.specs.Origin.{epoch, counted_from}
 use Rattle.calendar.proofs.EntryLaws.{counted-<, date-sum}
-use Rattle.calendar.specs.Answers.{dated_of}
 use native.Mathlib.Omega.{arith}
 use Rattle.calendar.proofs.add_date.Goals as goal
 
@@ -20,4 +19,4 @@ returns c =
     let f = c.ranges.z.sfits in
     let e = c.from_i32.ensures ∙ ap (counted_from epoch) (to_z-of_z w32 c.args.z c.ranges.z) in
     let r = c.add_over-r in
-    c.to_date.ensures ∙ ap dated_of (date-sum c.args.z c.from_i32.result r.result.day r.result.rest c.args.d.months.0 c.args.d.days.0 f e r.ensures.0 r.ensures.2)
+    c.to_date.ensures ∙ date-sum c.args.z c.from_i32.result r.result.day r.result.rest c.args.d.months.0 c.args.d.days.0 f e r.ensures.0 r.ensures.2

@@ -5,7 +5,6 @@ use mir.Syntax.{w64}
 use mir.ValLaws.{to_z-of_z}
 use Rattle.calendar.specs.Origin.{epoch, counted_from}
 use Rattle.calendar.proofs.EntryLaws.{stamp-sum}
-use Rattle.calendar.specs.Answers.{stamp_of}
 use native.Mathlib.Omega.{arith}
 use Rattle.calendar.proofs.add_stamp.Goals as goal
 
@@ -15,5 +14,5 @@ returns c =
     let a = c.add_over in
     let p = c.split in
     c.join.ensures
-    ∙ ap stamp_of (stamp-sum u c.args.p (p.result.day * u + p.result.rest) (a.result.day * u + a.result.rest) c.args.d.months.0 c.args.d.days.0 c.args.d.millis.0 c.args.z (omega (arith, c.requires.0)) c.ranges.z.sfits
-    (p.ensures.0 ∙ ap (counted_from (epoch * u)) (to_z-of_z w64 c.args.z c.ranges.z)) a.ensures.0)
+    ∙ stamp-sum u c.args.p (p.result.day * u + p.result.rest) (a.result.day * u + a.result.rest) c.args.d.months.0 c.args.d.days.0 c.args.d.millis.0 c.args.z (omega (arith, c.requires.0)) c.ranges.z.sfits
+    (p.ensures.0 ∙ ap (counted_from (epoch * u)) (to_z-of_z w64 c.args.z c.ranges.z)) a.ensures.0

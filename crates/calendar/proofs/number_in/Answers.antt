@@ -4,7 +4,6 @@ use mir.Syntax.{w64}
 use mir.ValLaws.{to_z-of_z}
 use Rattle.scalar.proofs.Scalars.{wide_fits, wide_back}
 use Rattle.calendar.specs.Instants.{number_in}
-use Rattle.calendar.proofs.OtherKinds.{no-instant}
 use borrow.Author.Rules.{rules}
 use Rattle.calendar.proofs.number_in.Goals as goal
 

@@ -18,6 +18,6 @@ scalar_at-requires c = (c.requires, sym c.is_scalar.ensures ∙ c.if-is_scalar.t
 pub returns-then-is_scalar : goal.returns-then-is_scalar
 returns-then-is_scalar c = cast-outcome _ _ c.requires (sym c.is_scalar.ensures ∙ c.if-is_scalar.true) (get_or-all_bytes _ (λ i. omega (arith, c.type_inv.v i))) resolve_int int_cast int-cast _ _ c.scalar_at.ensures c.to_int.ensures
 
-pub returns : goal.returns
+pub returns-else-is_scalar : goal.returns-else-is_scalar
 unfolding cast_outcome
-returns c = λ w u e. sym (int-other _ (sym c.is_scalar.ensures ∙ c.if-is_scalar.false) w (value-kind _ _ (get_or-all_bytes _ (λ i. omega (arith, c.type_inv.v i))) w u e))
+returns-else-is_scalar c = λ w u e. sym (int-other _ (sym c.is_scalar.ensures ∙ c.if-is_scalar.false) w (value-kind _ _ (get_or-all_bytes _ (λ i. omega (arith, c.type_inv.v i))) w u e))

@@ -1,12 +1,12 @@
--- What was converted is written, and the two refusals are 6 and 7.
-use Rattle.casts.proofs.CastLaws.{cast-to, cast-unsuited, cast-outside}
+-- What was converted is written, and a conversion's error is the refusal.
+use Rattle.std.proofs.lemmas.Result.{err_from_is_err_and}
+use Rattle.casts.proofs.CastLaws.{cast-to, cast-refused}
 use Rattle.casts.proofs.put_cast.Goals as goal
 
-pub returns-in-To : goal.returns-in-To
-returns-in-To c = cast-to _ _ _ _ c.in-To.is c.put_scalar.ensures
+pub returns-in_err-cast : goal.returns-in_err-cast
+returns-in_err-cast c =
+    let p = err_from_is_err_and c.from_residual.result c.from_residual.ensures.1 in
+    rw (p.1, p.2, c.in_err-cast.was) (cast-refused _ _)
 
-pub returns-in-Unsuited : goal.returns-in-Unsuited
-returns-in-Unsuited c = cast-unsuited _ _ c.in-Unsuited.is
-
-pub returns-in-OutOfRange : goal.returns-in-OutOfRange
-returns-in-OutOfRange c = cast-outside _ _ c.in-OutOfRange.is
+pub returns : goal.returns
+returns c = rw c.in_ok-cast.was (cast-to _ _ _ c.put_scalar.ensures)

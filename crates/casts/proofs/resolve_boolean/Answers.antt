@@ -17,5 +17,5 @@ slice_bounds-put-end c = flag-front _ _ c.requires 1 boolean-content c.if-v-eq-B
 pub returns-then-v-eq-BOOLEAN : goal.returns-then-v-eq-BOOLEAN
 returns-then-v-eq-BOOLEAN c = flag-kept resolve_boolean _ _ c.requires 1 boolean-content c.if-v-eq-BOOLEAN.true (get_or-all_bytes _ (λ i. omega (arith, c.type_inv.v i))) boolean-kept _ _ c.put.ensures
 
-pub returns : goal.returns
-returns c = kind-refused resolve_boolean _ _ c.requires (get_or-all_bytes _ (λ i. omega (arith, c.type_inv.v i))) 6 (boolean-refused _ c.if-v-eq-BOOLEAN.false) _
+pub returns-else-v-eq-BOOLEAN : goal.returns-else-v-eq-BOOLEAN
+returns-else-v-eq-BOOLEAN c = kind-refused resolve_boolean _ _ c.requires (get_or-all_bytes _ (λ i. omega (arith, c.type_inv.v i))) _ (boolean-refused _ c.if-v-eq-BOOLEAN.false) _

@@ -17,28 +17,28 @@ pub bounds-v-0 : goal.bounds-v-0
 bounds-v-0 c = (value_there _ _ c.requires).1
 
 pub read4-requires : goal.read4-requires
-read4-requires c = (wide-node _ _ c.requires 2 4 int-content c.if-k-eq-INT.true).0
+read4-requires c = (wide-node _ _ c.requires 2 4 int-content c.in-2.is).0
 
-pub returns-then-k-eq-INT : goal.returns-then-k-eq-INT
-returns-then-k-eq-INT c = int-way to-double _ _ c.requires c.if-k-eq-INT.true _ _ c.read4.ensures c.int_to_double.ensures _ _ c.put_double.ensures
+pub returns-in-2 : goal.returns-in-2
+returns-in-2 c = int-way to-double _ _ c.requires c.in-2.is _ _ c.read4.ensures c.int_to_double.ensures _ _ c.put_double.ensures
 
 pub read8-requires : goal.read8-requires
-read8-requires c = (wide-node _ _ c.requires 3 8 long-content c.if-k-eq-LONG.true).0
+read8-requires c = (wide-node _ _ c.requires 3 8 long-content c.in-3.is).0
 
-pub returns-then-k-eq-LONG : goal.returns-then-k-eq-LONG
-returns-then-k-eq-LONG c = long-way to-double _ _ c.requires c.if-k-eq-LONG.true _ _ c.read8.ensures c.long_to_double.ensures _ _ c.put_double-then-k-eq-LONG.ensures
+pub returns-in-3 : goal.returns-in-3
+returns-in-3 c = long-way to-double _ _ c.requires c.in-3.is _ _ c.read8.ensures c.long_to_double.ensures _ _ c.put_double-in-3.ensures
 
-pub read4-requires-then-k-eq-FLOAT : goal.read4-requires-then-k-eq-FLOAT
-read4-requires-then-k-eq-FLOAT c = (wide-node _ _ c.requires 4 4 float-content c.if-k-eq-FLOAT.true).0
+pub read4-requires-in-4 : goal.read4-requires-in-4
+read4-requires-in-4 c = (wide-node _ _ c.requires 4 4 float-content c.in-4.is).0
 
-pub returns-then-k-eq-FLOAT : goal.returns-then-k-eq-FLOAT
-returns-then-k-eq-FLOAT c = float-way to-double _ _ c.requires c.if-k-eq-FLOAT.true _ _ c.read4-then-k-eq-FLOAT.ensures c.float_to_double.ensures _ _ c.put_double-then-k-eq-FLOAT.ensures
+pub returns-in-4 : goal.returns-in-4
+returns-in-4 c = float-way to-double _ _ c.requires c.in-4.is _ _ c.read4-in-4.ensures c.float_to_double.ensures _ _ c.put_double-in-4.ensures
 
-pub read8-requires-then-k-eq-DOUBLE : goal.read8-requires-then-k-eq-DOUBLE
-read8-requires-then-k-eq-DOUBLE c = (wide-node _ _ c.requires 5 8 double-content c.if-k-eq-DOUBLE.true).0
+pub read8-requires-in-5 : goal.read8-requires-in-5
+read8-requires-in-5 c = (wide-node _ _ c.requires 5 8 double-content c.in-5.is).0
 
-pub returns-then-k-eq-DOUBLE : goal.returns-then-k-eq-DOUBLE
-returns-then-k-eq-DOUBLE c = double-way to-double _ _ c.requires c.if-k-eq-DOUBLE.true _ _ c.read8-then-k-eq-DOUBLE.ensures c.double_to_double.ensures _ _ c.put_double-then-k-eq-DOUBLE.ensures
+pub returns-in-5 : goal.returns-in-5
+returns-in-5 c = double-way to-double _ _ c.requires c.in-5.is _ _ c.read8-in-5.ensures c.double_to_double.ensures _ _ c.put_double-in-5.ensures
 
 pub slice_bounds-double_of_text-count : goal.slice_bounds-double_of_text-count
 slice_bounds-double_of_text-count c = let h = (value_there _ _ c.requires).1 in omega arith
@@ -47,10 +47,10 @@ pub slice_bounds-double_of_text-start : goal.slice_bounds-double_of_text-start
 slice_bounds-double_of_text-start c = let h = (value_there _ _ c.requires).1 in omega arith
 
 pub double_of_text-requires : goal.double_of_text-requires
-double_of_text-requires c = subst (λ (x : List ℕ). Reads (read_counted x)) (sym (part_to_end c.args.v.now 1)) (text-reads-counted _ _ c.requires 7 string-content c.if-k-eq-STRING.true)
+double_of_text-requires c = subst (λ (x : List ℕ). Reads (read_counted x)) (sym (part_to_end c.args.v.now 1)) (text-reads-counted _ _ c.requires 7 string-content c.in-7.is)
 
-pub returns-then-k-eq-STRING : goal.returns-then-k-eq-STRING
-returns-then-k-eq-STRING c = text-way to-double _ _ c.requires c.if-k-eq-STRING.true _ (part_to_end c.args.v.now 1) _ _ c.double_of_text.ensures
+pub returns-in-7 : goal.returns-in-7
+returns-in-7 c = text-way to-double _ _ c.requires c.in-7.is _ (part_to_end c.args.v.now 1) _ _ c.double_of_text.ensures
 
-pub returns : goal.returns
-returns c = other_way to-double _ _ c.requires (get_or-all_bytes _ (λ i. omega (arith, c.type_inv.v i))) c.if-k-eq-INT.false c.if-k-eq-LONG.false c.if-k-eq-FLOAT.false c.if-k-eq-DOUBLE.false c.if-k-eq-STRING.false _
+pub returns-in_default : goal.returns-in_default
+returns-in_default c = other_way to-double _ _ c.requires (get_or-all_bytes _ (λ i. omega (arith, c.type_inv.v i))) (λ e. omega arith) (λ e. omega arith) (λ e. omega arith) (λ e. omega arith) (λ e. omega arith) _

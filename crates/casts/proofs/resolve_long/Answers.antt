@@ -18,5 +18,5 @@ scalar_at-requires c = (c.requires, sym c.is_scalar.ensures ∙ c.if-is_scalar.t
 pub returns-then-is_scalar : goal.returns-then-is_scalar
 returns-then-is_scalar c = read_answer _ _ resolve_long _ _ _ c.requires (cast-outcome _ _ c.requires (sym c.is_scalar.ensures ∙ c.if-is_scalar.true) (get_or-all_bytes _ (λ i. omega (arith, c.type_inv.v i))) resolve_long long_cast long-cast _ _ c.scalar_at.ensures c.to_long.ensures) c.put_cast.ensures
 
-pub returns : goal.returns
-returns c = kind-refused resolve_long _ _ c.requires (get_or-all_bytes _ (λ i. omega (arith, c.type_inv.v i))) 6 (long-other _ (sym c.is_scalar.ensures ∙ c.if-is_scalar.false)) _
+pub returns-else-is_scalar : goal.returns-else-is_scalar
+returns-else-is_scalar c = kind-refused resolve_long _ _ c.requires (get_or-all_bytes _ (λ i. omega (arith, c.type_inv.v i))) _ (long-other _ (sym c.is_scalar.ensures ∙ c.if-is_scalar.false)) _

@@ -17,5 +17,5 @@ slice_bounds-put-end c = wide-front _ _ c.requires 0 0 null-content c.if-v-eq-NU
 pub returns-then-v-eq-NULL : goal.returns-then-v-eq-NULL
 returns-then-v-eq-NULL c = wide-kept resolve_null _ _ c.requires 0 0 null-content c.if-v-eq-NULL.true (get_or-all_bytes _ (λ i. omega (arith, c.type_inv.v i))) null-kept _ _ c.put.ensures
 
-pub returns : goal.returns
-returns c = kind-refused resolve_null _ _ c.requires (get_or-all_bytes _ (λ i. omega (arith, c.type_inv.v i))) 6 (null-refused _ c.if-v-eq-NULL.false) _
+pub returns-else-v-eq-NULL : goal.returns-else-v-eq-NULL
+returns-else-v-eq-NULL c = kind-refused resolve_null _ _ c.requires (get_or-all_bytes _ (λ i. omega (arith, c.type_inv.v i))) _ (null-refused _ c.if-v-eq-NULL.false) _

@@ -18,5 +18,5 @@ scalar_at-requires c = (c.requires.0, sym c.is_scalar.ensures ∙ c.if-is_scalar
 pub returns-then-is_scalar : goal.returns-then-is_scalar
 returns-then-is_scalar c = read_answer _ _ (resolve_plain c.args.kind) _ _ _ c.requires.0 (cast-outcome _ _ c.requires.0 (sym c.is_scalar.ensures ∙ c.if-is_scalar.true) (get_or-all_bytes _ (λ i. omega (arith, c.type_inv.v i))) (resolve_plain c.args.kind) (time_cast c.args.kind) (time-cast c.args.kind c.requires.1 c.requires.2) _ _ c.scalar_at.ensures c.to_time.ensures) c.put_cast.ensures
 
-pub returns : goal.returns
-returns c = kind-refused (resolve_plain c.args.kind) _ _ c.requires.0 (get_or-all_bytes _ (λ i. omega (arith, c.type_inv.v i))) 6 (time-other _ (sym c.is_scalar.ensures ∙ c.if-is_scalar.false) c.args.kind c.requires.1 c.requires.2) _
+pub returns-else-is_scalar : goal.returns-else-is_scalar
+returns-else-is_scalar c = kind-refused (resolve_plain c.args.kind) _ _ c.requires.0 (get_or-all_bytes _ (λ i. omega (arith, c.type_inv.v i))) _ (time-other _ (sym c.is_scalar.ensures ∙ c.if-is_scalar.false) c.args.kind c.requires.1 c.requires.2) _

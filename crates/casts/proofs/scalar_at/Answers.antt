@@ -17,5 +17,5 @@ returns-then-is_short c = λ w u e. c.of_content.ensures ∙ scalar_read _ _ c.r
 pub read8-requires : goal.read8-requires
 read8-requires c = node-width _ _ c.requires.0 c.requires.1 false (sym c.is_short.ensures ∙ c.if-is_short.false)
 
-pub returns : goal.returns
-returns c = λ w u e. c.of_content-2.ensures ∙ scalar_read _ _ c.requires.0 c.requires.1 false (sym c.is_short.ensures ∙ c.if-is_short.false) _ c.read8.ensures w u e
+pub returns-else-is_short : goal.returns-else-is_short
+returns-else-is_short c = λ w u e. c.of_content-else-is_short.ensures ∙ scalar_read _ _ c.requires.0 c.requires.1 false (sym c.is_short.ensures ∙ c.if-is_short.false) _ c.read8.ensures w u e

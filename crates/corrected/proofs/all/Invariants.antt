@@ -1,11 +1,8 @@
--- The loop of `corrected::all`: the reader and its buffers go together, and the buffers keep their lengths. The measure is the turns that are left.
+-- The loop of `corrected::all`: the reader and its buffers go together, and the buffers keep their lengths.
 use mathlib.Core.Path.{◌≡◌}
 use lib.ListN.{length}
 use Rattle.lines.specs.Held.{Held}
 use Rattle.corrected.proofs.all.Given as goal
 
-abbrev pub invariant-loop-turns : goal.invariant-loop-turns
-invariant-loop-turns g l = Held l.r l.block l.line × (length l.line ≡ length l.initial.line)
-
-abbrev pub decreases-loop-turns : goal.decreases-loop-turns
-decreases-loop-turns g l = l.turns
+abbrev pub invariant-loop : goal.invariant-loop
+invariant-loop g l = Held l.r l.block l.line × (length l.line ≡ length l.initial.line)

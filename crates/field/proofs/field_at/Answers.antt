@@ -12,7 +12,7 @@ pub bounds-s-flag : goal.bounds-s-flag
 bounds-s-flag c = flag-inside _ _ _ c.requires _ _ c.content-name.ensures.0
 
 pub returns-then-s-flag-eq0 : goal.returns-then-s-flag-eq0
-returns-then-s-flag-eq0 c = parts_none _ _ _ c.requires _ _ c.content-name.ensures.0 c.if-s-flag-eq0.true _
+returns-then-s-flag-eq0 c = parts_none _ _ _ c.requires _ _ c.content-name.ensures.0 c.if-s-flag-eq0.true
 
 pub slice_bounds-value_len-count : goal.slice_bounds-value_len-count
 slice_bounds-value_len-count c = behind-inside _ _ _ c.requires _ _ c.content-name.ensures.0
@@ -26,5 +26,5 @@ value_len-n-requires c = rw part_to_end (default-reads _ _ _ c.requires _ _ c.co
 pub overflow_add-result : goal.overflow_add-result
 overflow_add-result c = omega (arith, schema-inside _ _ _ c.requires _ _ c.content-name.ensures.0 c.if-s-flag-eq0.false _ (rw part_to_end at c.value_len-n.ensures), c.well_formed)
 
-pub returns : goal.returns
-returns c = parts-some _ _ _ c.requires _ _ c.content-name.ensures.0 c.if-s-flag-eq0.false _ (rw part_to_end at c.value_len-n.ensures)
+pub returns-else-s-flag-eq0 : goal.returns-else-s-flag-eq0
+returns-else-s-flag-eq0 c = parts-some _ _ _ c.requires _ _ c.content-name.ensures.0 c.if-s-flag-eq0.false _ (rw part_to_end at c.value_len-n.ensures)

@@ -13,5 +13,5 @@ overflow_sub-result c = let h = (value_there _ _ c.requires).0 in omega arith
 pub returns-then-v-eq-UNION : goal.returns-then-v-eq-UNION
 returns-then-v-eq-UNION c = peel-union _ _ c.requires c.if-v-eq-UNION.true
 
-pub returns : goal.returns
-returns c = (omega arith, peel-other _ _ c.requires c.if-v-eq-UNION.false)
+pub returns-else-v-eq-UNION : goal.returns-else-v-eq-UNION
+returns-else-v-eq-UNION c = (omega arith, peel-other _ _ c.requires c.if-v-eq-UNION.false)

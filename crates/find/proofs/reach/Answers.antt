@@ -9,5 +9,5 @@ returns-then-left-le1 c = (omega arith, λ h. absurd (omega (arith, h, c.if-left
 pub value_len-requires : goal.value_len-requires
 value_len-requires c = c.requires
 
-pub returns : goal.returns
-returns c = (spans-le _ _ _ c.value_len.ensures, λ h. c.value_len.ensures)
+pub returns-else-left-le1 : goal.returns-else-left-le1
+returns-else-left-le1 c = (spans-le _ _ _ c.value_len.ensures, λ h. c.value_len.ensures)

@@ -11,6 +11,6 @@ pub returns-then-b-lt9223372036854775808 : goal.returns-then-b-lt922337203685477
 unfolding rank
 returns-then-b-lt9223372036854775808 c = let x = c.args.b in sym (ap (λ (t : Bool). when t then x + 2 ^ 63 else x - 2 ^ 63) (lt-ltb x (2 ^ 63) c.if-b-lt9223372036854775808.true))
 
-pub returns : goal.returns
+pub returns-else-b-lt9223372036854775808 : goal.returns-else-b-lt9223372036854775808
 unfolding rank
-returns c = let x = c.args.b in sym (ap (λ (t : Bool). when t then x + 2 ^ 63 else x - 2 ^ 63) (le-ltb x (2 ^ 63) c.if-b-lt9223372036854775808.false))
+returns-else-b-lt9223372036854775808 c = let x = c.args.b in sym (ap (λ (t : Bool). when t then x + 2 ^ 63 else x - 2 ^ 63) (le-ltb x (2 ^ 63) c.if-b-lt9223372036854775808.false))

@@ -1,13 +1,17 @@
--- `calendar::is_leap` meets its contract: the rule by its tests. Assumes nothing.
-use mathlib.Core.Path.{sym}
-use Rattle.gregorian.proofs.Fast.{leap-no, leap-yes, leap-century}
+-- `gregorian::is_leap` meets its contract: the rule by its tests. Assumes nothing.
+use Rattle.std.proofs.Common.{arith}
+use Rattle.std.proofs.lemmas.Bool.Decides.{nat_tests}
+use Rattle.gregorian.specs.Counted.{leap_at}
 use Rattle.gregorian.proofs.is_leap.Goals as goal
 
 pub returns-then-y-ne0 : goal.returns-then-y-ne0
-returns-then-y-ne0 c = sym (leap-no c.args.y c.if-y-ne0.true)
+unfolding leap_at
+returns-then-y-ne0 c = grind (arith, nat_tests)
 
-pub returns-then-y-ne0-2 : goal.returns-then-y-ne0-2
-returns-then-y-ne0-2 c = sym (leap-yes c.args.y c.if-y-ne0.false c.if-y-ne0-2.true)
+pub returns-else-y-ne0 : goal.returns-else-y-ne0
+unfolding leap_at
+returns-else-y-ne0 c = grind (arith, nat_tests)
 
-pub returns : goal.returns
-returns c = sym (leap-century c.args.y c.if-y-ne0.false c.if-y-ne0-2.false)
+pub returns-else-y-eq0 : goal.returns-else-y-eq0
+unfolding leap_at
+returns-else-y-eq0 c = grind (arith, nat_tests)

@@ -1,4 +1,4 @@
--- `calendar::month_at` meets its contract: the guess is the month or the one before it. Assumes nothing.
+-- `gregorian::month_at` meets its contract: the guess is the month or the one before it. Assumes nothing.
 use Prim.Native.Nat.{◌+◌, ◌/◌, ◌≤◌}
 use Rattle.gregorian.specs.Rules.{month_start}
 use Rattle.gregorian.proofs.Laws.{year_length-≤}
@@ -17,8 +17,8 @@ returns-then-month_start-d c =
     let t = month-twelve l d (d / 32 + 1) c.requires (omega (arith, year_length-≤ l, c.requires)) s in
     (s, omega (arith, month-high l (d / 32) (omega arith)), t)
 
-pub returns : goal.returns
-returns c =
+pub returns-else-month_start-d : goal.returns-else-month_start-d
+returns-else-month_start-d c =
     let l = c.args.l in
     let d = c.args.d in
     (omega (arith, month-low l (d / 32)), omega (arith, c.month_start.ensures), omega (arith, year_length-≤ l, c.requires))

@@ -1,4 +1,4 @@
--- `calendar::year_at` meets its contract: the guess is the year or the one after it. Assumes nothing.
+-- `gregorian::year_at` meets its contract: the guess is the year or the one after it. Assumes nothing.
 use Prim.Native.Nat.{ℕ, ◌+◌, ◌-◌, ◌*◌, ◌/◌, ◌≤◌, ◌<◌}
 use mathlib.Core.Path.{◌≡◌, refl, subst}
 use Rattle.gregorian.specs.Counted.{years_to}
@@ -19,8 +19,8 @@ overflow_sub-result c =
     let h : n < years_to y = omega (arith, c.year_start.ensures) in
     year-some n y h
 
-pub returns : goal.returns
-returns c =
+pub returns-else-year_start-n : goal.returns-else-year_start-n
+returns-else-year_start-n c =
     let n = c.args.n in
     let y = 400 * (n + 1) / 146097 in
     let h : n < years_to y = omega (arith, c.year_start.ensures) in

@@ -13,5 +13,5 @@ pub slice_bounds-clear-end-2 : goal.slice_bounds-clear-end-2
 slice_bounds-clear-end-2 c = sym (length-take-le _ c.args.workspace.now (omega (arith, c.if-workspace-lt65536.false)))
 
 pub returns : goal.returns
-returns c = let all = cleared c.args.input.now c.args.ends.now c.args.res.now c.args.workspace.now _ _ _ _ c.if-workspace-lt65536.false c.clear.ensures (c.current-told.ensures.answer, c.current-told.ensures.contents) c.entry_of.ensures in
+returns c = let all = cleared c.args.input.now c.args.ends.now c.args.res.now c.args.workspace.now _ _ _ c.if-workspace-lt65536.false c.clear.ensures (c.current-named.ensures.answer, c.current-named.ensures.contents) in
     record { answer = all.0; contents = all.1.0; cleared = all.1.1 }

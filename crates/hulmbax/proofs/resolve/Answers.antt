@@ -25,5 +25,5 @@ slice_bounds-clear-end-2 c =
     sym (length-take-le _ (y ++ drop 65536 w) (simp length-append (omega (arith, ly))))
 
 pub returns : goal.returns
-returns c = let all = cleared c.args.schema.now c.args.«record».now c.args.res.now c.resolve_in-told.new.res c.args.workspace.now c.resolve_in-told.new.work c.clear.new.b c.resolve_in-told.result c.if-workspace-lt65536.false c.resolve_in-told.auto.work c.clear.ensures (c.resolve_in-told.ensures.answer, c.resolve_in-told.ensures.contents) in
+returns c = let all = cleared c.args.schema.now c.args.«record».now c.args.res.now c.resolve_in-told.new.res c.args.workspace.now c.resolve_in-told.new.work c.clear.new.b _ c.if-workspace-lt65536.false c.resolve_in-told.auto.work c.clear.ensures (c.resolve_in-told.ensures.answer, c.resolve_in-told.ensures.contents) in
     record { answer = all.0; contents = all.1.0; cleared = all.1.1 }

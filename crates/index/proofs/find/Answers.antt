@@ -1,12 +1,10 @@
 -- `index::find` meets its contract.
-use Prim.Native.Nat.{ℕ, ◌+◌, ◌*◌, ◌%◌, ◌≤◌, ◌<◌}
-use mathlib.Core.Path.{◌≡◌, sym, ap, ◌∙◌}
+use Prim.Native.Nat.{ℕ, ◌+◌, ◌*◌, ◌%◌}
+use mathlib.Core.Path.{sym, ap, ◌∙◌}
 use mathlib.Core.List.{List}
 use native.Mathlib.Omega.{arith}
-use lib.ListN.{length, get_or, drop}
+use lib.ListN.{get_or}
 use Rattle.text.specs.Text.{same}
-use Rattle.text.specs.Read.{read_counted, text_at}
-use Rattle.text.specs.Measured.{Reads}
 use Rattle.index.specs.Table.{row}
 use Rattle.index.proofs.TableLaws.{Walk, walk_start, walk-text, walk-hit, walk-less, walk-next, walk_end}
 use Rattle.index.proofs.PlaceLaws.{tail-reads, tail-text}

@@ -14,11 +14,17 @@ returns-then-slots-lt3 c =
     let all = civil-short a.date _ a.slots.now c.if-slots-lt3.true (to_z-of_z w32 c.negated.result (record { sfits = c.negated.type_inv }) ∙ c.negated.ensures) in
     record { answer = all.0; contents = all.1 }
 
-pub overflow_cast-month : goal.overflow_cast-month
-overflow_cast-month c = month-fits c.civil_of-c.result c.args.date c.ranges.date c.civil_of-c.ensures
+pub overflow_cast-slots : goal.overflow_cast-slots
+overflow_cast-slots c =
+    let m = month-fits c.civil_of-c.result c.args.date c.ranges.date c.civil_of-c.ensures in
+    let d = day-fits c.civil_of-c.result c.args.date c.ranges.date c.civil_of-c.ensures in
+    record { sfits = omega (arith, m.sfits, d.sfits) }
 
-pub overflow_cast-day : goal.overflow_cast-day
-overflow_cast-day c = day-fits c.civil_of-c.result c.args.date c.ranges.date c.civil_of-c.ensures
+pub overflow_cast-slots-2 : goal.overflow_cast-slots-2
+overflow_cast-slots-2 c =
+    let m = month-fits c.civil_of-c.result c.args.date c.ranges.date c.civil_of-c.ensures in
+    let d = day-fits c.civil_of-c.result c.args.date c.ranges.date c.civil_of-c.ensures in
+    record { sfits = omega (arith, m.sfits, d.sfits) }
 
 pub bounds-slots-1 : goal.bounds-slots-1
 bounds-slots-1 c = rw length-set (omega (arith, c.if-slots-lt3.false))

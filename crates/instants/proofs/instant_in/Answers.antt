@@ -17,7 +17,7 @@ returns-then-is_scalar c =
     let v = c.args.v.now in
     λ w u e. c.scalar_at.ensures w u e ∙ scalar-instant v w (value-kind 16 v (get_or-all_bytes v (λ i. omega (arith, c.type_inv.v i))) w u e) (sym c.is_scalar.ensures ∙ c.if-is_scalar.true)
 
-pub returns : goal.returns
-returns c =
+pub returns-else-is_scalar : goal.returns-else-is_scalar
+returns-else-is_scalar c =
     let v = c.args.v.now in
     λ w u e. no-instant v w (value-kind 16 v (get_or-all_bytes v (λ i. omega (arith, c.type_inv.v i))) w u e) (sym c.is_scalar.ensures ∙ c.if-is_scalar.false)

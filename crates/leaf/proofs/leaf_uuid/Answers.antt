@@ -6,17 +6,14 @@ use Rattle.leaf.proofs.leaf_uuid.Goals as goal
 pub bounds-s-1 : goal.bounds-s-1
 bounds-s-1 c = uuid-long _ _ c.requires.0 c.requires.2
 
-pub returns-then-s-eq0 : goal.returns-then-s-eq0
-returns-then-s-eq0 c = wrote-eq _ _ _ _ (uuid-bytes-outcome _ _ c.requires.0 _ c.requires.2 c.if-s-eq0.true) c.resolve_uuid_bytes.ensures
+pub returns-in-0 : goal.returns-in-0
+returns-in-0 c = wrote-eq _ _ _ _ (uuid-bytes-outcome _ _ c.requires.0 _ c.requires.2 c.in-0.is) c.resolve_uuid_bytes.ensures
 
-pub bounds-s-1-2 : goal.bounds-s-1-2
-bounds-s-1-2 c = uuid-long _ _ c.requires.0 c.requires.2
-
-pub returns-then-s-eq1 : goal.returns-then-s-eq1
-returns-then-s-eq1 c = wrote-eq _ _ _ _ (uuid-string-outcome _ _ c.requires.0 _ c.requires.2 c.if-s-eq1.true) c.resolve_uuid_string.ensures
+pub returns-in-1 : goal.returns-in-1
+returns-in-1 c = wrote-eq _ _ _ _ (uuid-string-outcome _ _ c.requires.0 _ c.requires.2 c.in-1.is) c.resolve_uuid_string.ensures
 
 pub read2-requires : goal.read2-requires
-read2-requires c = omega (arith, uuid-fixed-long _ _ c.requires.0 c.requires.2 c.if-s-eq0.false c.if-s-eq1.false)
+read2-requires c = omega (arith, uuid-fixed-long _ _ c.requires.0 c.requires.2 (λ e. omega arith) (λ e. omega arith))
 
-pub returns : goal.returns
-returns c = wrote-eq _ _ _ _ (uuid-fixed-outcome _ _ c.requires.0 _ c.requires.2 c.if-s-eq0.false c.if-s-eq1.false _ c.read2.ensures) c.resolve_uuid_fixed.ensures
+pub returns-in_default : goal.returns-in_default
+returns-in_default c = wrote-eq _ _ _ _ (uuid-fixed-outcome _ _ c.requires.0 _ c.requires.2 (λ e. omega arith) (λ e. omega arith) _ c.read2.ensures) c.resolve_uuid_fixed.ensures

@@ -1,10 +1,12 @@
--- `number::put8` meets its contract.
+-- std's bytes of a number are those of `bytes_of`.
+use mathlib.Core.Path.{◌≡◌, ◌∙◌}
 use native.Mathlib.Omega.{arith}
-use mathlib.Core.Path.{◌∙◌}
-use Rattle.number.proofs.Laws.{written-halves}
+use Rattle.number.specs.Number.{bytes_of}
+use Rattle.number.proofs.Laws.{put_mid-written, bytes_high_first-bytes_of, length-bytes_of}
 use Rattle.number.proofs.put8.Goals as goal
 
 pub returns : goal.returns
 returns c =
-    let a = c.args in
-    c.put4-2.ensures ∙ rw c.put4.ensures (written-halves a.b.now a.at 4 4 a.v (omega arith))
+    let v = c.args.v in
+    let e : c.copy_from_slice.new.self ≡ bytes_of 8 v = c.copy_from_slice.ensures.after ∙ c.to_be_bytes.ensures ∙ bytes_high_first-bytes_of 8 v in
+    rw e (put_mid-written c.args.b.now (bytes_of 8 v) c.args.at _ (omega (arith, length-bytes_of 8 v)))

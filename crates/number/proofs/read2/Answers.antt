@@ -1,24 +1,14 @@
--- `number::read2` meets its contract.
+-- std's sum over the bytes is what `big_endian` gives.
+use mathlib.Core.Path.{◌≡◌, ap, ◌∙◌}
 use native.Mathlib.Omega.{arith}
-use mathlib.Core.Path.{refl, sym, ◌∙◌}
-use Prim.Native.Nat.{◌+◌}
-use Rattle.number.proofs.Laws.{number_at-add, number_at-one}
+use lib.ListN.{length, take, drop, length-drop}
+use lib.Seq.{length-take-le}
+use Rattle.std.specs.Int.{w16, from_be_bytes}
+use Rattle.number.proofs.Laws.{worth-big_endian}
 use Rattle.number.proofs.read2.Goals as goal
-
-pub overflow_cast-result : goal.overflow_cast-result
-overflow_cast-result c = omega (arith, c.shared_slice_known-1.given c.args.at)
-
-pub overflow_mul-result : goal.overflow_mul-result
-overflow_mul-result c = omega (arith, c.shared_slice_known-1.given c.args.at)
-
-pub overflow_cast-result-2 : goal.overflow_cast-result-2
-overflow_cast-result-2 c = omega (arith, c.shared_slice_known-2-1.given (c.args.at + 1))
-
-pub overflow_add-result-2 : goal.overflow_add-result-2
-overflow_add-result-2 c = omega (arith, c.shared_slice_known-1.given c.args.at, c.shared_slice_known-2-1.given (c.args.at + 1))
 
 pub returns : goal.returns
 returns c =
-    let s = c.args.s.now in
-    let at = c.args.at in
-    sym (number_at-add s at 1 1 (omega arith) ∙ rw (number_at-one s at (omega arith), number_at-one s (at + 1) (omega arith)) refl)
+    let part = take 2 (drop c.args.at c.args.s.now) in
+    let l : length part ≡ 2 = length-take-le 2 (drop c.args.at c.args.s.now) (simp length-drop (omega arith)) in
+    c.from_be_bytes.ensures ∙ ap (from_be_bytes w16) c.bytes_at.ensures ∙ worth-big_endian part 1 l

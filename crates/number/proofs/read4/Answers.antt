@@ -1,10 +1,14 @@
--- `number::read4` meets its contract.
+-- std's sum over the bytes is what `big_endian` gives.
+use mathlib.Core.Path.{◌≡◌, ap, ◌∙◌}
 use native.Mathlib.Omega.{arith}
-use mathlib.Core.Path.{sym}
-use Rattle.number.proofs.Laws.{number_at-add}
+use lib.ListN.{length, take, drop, length-drop}
+use lib.Seq.{length-take-le}
+use Rattle.std.specs.Int.{w32, from_be_bytes}
+use Rattle.number.proofs.Laws.{worth-big_endian}
 use Rattle.number.proofs.read4.Goals as goal
 
 pub returns : goal.returns
 returns c =
-    let a = c.args in
-    rw (c.read2.ensures, c.read2-2.ensures) (sym (number_at-add a.s.now a.at 2 2 (omega arith)))
+    let part = take 4 (drop c.args.at c.args.s.now) in
+    let l : length part ≡ 4 = length-take-le 4 (drop c.args.at c.args.s.now) (simp length-drop (omega arith)) in
+    c.from_be_bytes.ensures ∙ ap (from_be_bytes w32) c.bytes_at.ensures ∙ worth-big_endian part 3 l

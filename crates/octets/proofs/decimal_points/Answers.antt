@@ -1,6 +1,7 @@
 -- `octets::decimal_points` meets its contract.
 use native.Mathlib.Omega.{arith}
 use mathlib.Core.Path.{sym, ap, ◌∙◌}
+use Rattle.base.specs.declared.refusal.Refusal.TheVariants.{BytesTooFew}
 use Rattle.decimal.specs.Decimal.{too_short_for}
 use Rattle.buffer.proofs.BuiltLaws.{built-small}
 use Rattle.types.specs.Contract.{points}
@@ -11,7 +12,7 @@ use Rattle.octets.proofs.DecimalLaws.{length-points}
 use Rattle.octets.proofs.decimal_points.Goals as goal
 
 pub returns-then-too_short_for : goal.returns-then-too_short_for
-returns-then-too_short_for c = wrote_then _ _ _ _ _ (ap (too_short_for c.args.precision) (sym c.requires.2) ∙ sym c.too_short_for.ensures ∙ c.if-too_short_for.true) (refused-with 14 _)
+returns-then-too_short_for c = wrote_then _ _ _ _ _ (ap (too_short_for c.args.precision) (sym c.requires.2) ∙ sym c.too_short_for.ensures ∙ c.if-too_short_for.true) (refused-with BytesTooFew _)
 
 pub overflow_cast-h : goal.overflow_cast-h
 overflow_cast-h c = omega (arith, length-points c.args.t.now, c.requires.2, c.requires.3)

@@ -1,4 +1,4 @@
--- A Duration is taken and written, a Fixed of 12 bytes is one, and any other kind is refused.
+-- `octets::resolve_duration` meets its contract.
 use native.Mathlib.Omega.{arith}
 use Rattle.number.proofs.Laws.{get_or-all_bytes}
 use Rattle.frame.specs.Tree.{kind_of, octets}
@@ -14,21 +14,18 @@ pub bounds-v-0 : goal.bounds-v-0
 bounds-v-0 c = (value_there _ _ c.requires).1
 
 pub slice_bounds-put_duration-end : goal.slice_bounds-put_duration-end
-slice_bounds-put_duration-end c = (plain-node _ _ c.requires 25 12 duration-content c.if-v-eq-DURATION.true).0
+slice_bounds-put_duration-end c = (plain-node _ _ c.requires 25 12 duration-content c.in-25.is).0
 
-pub returns-then-v-eq-DURATION : goal.returns-then-v-eq-DURATION
+pub returns-in-25 : goal.returns-in-25
 unfolding resolve_duration kind_of octets
-returns-then-v-eq-DURATION c = on-plain resolve_duration _ _ c.requires 25 12 _ _ duration-content c.if-v-eq-DURATION.true (wrote-plain 25 12 _ _ _ duration-content c.put_duration.ensures)
-
-pub bounds-v-0-2 : goal.bounds-v-0-2
-bounds-v-0-2 c = (value_there _ _ c.requires).1
+returns-in-25 c = on-plain resolve_duration _ _ c.requires 25 12 _ _ duration-content c.in-25.is (wrote-plain 25 12 _ _ _ duration-content c.put_duration.ensures)
 
 pub content-requires : goal.content-requires
-content-requires c = counted-reads _ _ c.requires 13 fixed-content c.if-v-eq-FIXED.true
+content-requires c = counted-reads _ _ c.requires 13 fixed-content c.in-13.is
 
-pub returns-then-v-eq-FIXED : goal.returns-then-v-eq-FIXED
+pub returns-in-13 : goal.returns-in-13
 unfolding resolve_duration kind_of octets
-returns-then-v-eq-FIXED c = on-counted resolve_duration _ _ c.requires 13 _ _ _ fixed-content c.if-v-eq-FIXED.true c.content.ensures c.duration_of.ensures
+returns-in-13 c = on-counted resolve_duration _ _ c.requires 13 _ _ _ fixed-content c.in-13.is c.content.ensures c.duration_of.ensures
 
-pub returns : goal.returns
-returns c = kind-refused resolve_duration _ _ c.requires (get_or-all_bytes c.args.v.now (λ i. omega (arith, c.type_inv.v i))) 6 (λ w e. duration-other _ w e c.if-v-eq-DURATION.false c.if-v-eq-FIXED.false) _
+pub returns-in_default : goal.returns-in_default
+returns-in_default c = kind-refused resolve_duration _ _ c.requires (get_or-all_bytes c.args.v.now (λ i. omega (arith, c.type_inv.v i))) _ (λ w e. duration-other _ w e (λ k. omega arith) (λ k. omega arith)) _

@@ -14,21 +14,18 @@ pub bounds-v-0 : goal.bounds-v-0
 bounds-v-0 c = (value_there _ _ c.requires).1
 
 pub slice_bounds-put_plain-end : goal.slice_bounds-put_plain-end
-slice_bounds-put_plain-end c = (plain-node _ _ c.requires 15 16 uuid-content c.if-v-eq-UUID.true).0
+slice_bounds-put_plain-end c = (plain-node _ _ c.requires 15 16 uuid-content c.in-15.is).0
 
-pub returns-then-v-eq-UUID : goal.returns-then-v-eq-UUID
+pub returns-in-15 : goal.returns-in-15
 unfolding resolve_uuid kind_of octets
-returns-then-v-eq-UUID c = on-plain (resolve_uuid UuidForm.bytes) _ _ c.requires 15 16 _ _ uuid-content c.if-v-eq-UUID.true (wrote-plain 15 16 _ _ _ uuid-content c.put_plain.ensures)
-
-pub bounds-v-0-2 : goal.bounds-v-0-2
-bounds-v-0-2 c = (value_there _ _ c.requires).1
+returns-in-15 c = on-plain (resolve_uuid UuidForm.bytes) _ _ c.requires 15 16 _ _ uuid-content c.in-15.is (wrote-plain 15 16 _ _ _ uuid-content c.put_plain.ensures)
 
 pub content-requires : goal.content-requires
-content-requires c = counted-reads _ _ c.requires 6 bytes-content c.if-v-eq-BYTES.true
+content-requires c = counted-reads _ _ c.requires 6 bytes-content c.in-6.is
 
-pub returns-then-v-eq-BYTES : goal.returns-then-v-eq-BYTES
+pub returns-in-6 : goal.returns-in-6
 unfolding resolve_uuid kind_of octets
-returns-then-v-eq-BYTES c = on-counted (resolve_uuid UuidForm.bytes) _ _ c.requires 6 _ _ _ bytes-content c.if-v-eq-BYTES.true c.content.ensures c.uuid_of.ensures
+returns-in-6 c = on-counted (resolve_uuid UuidForm.bytes) _ _ c.requires 6 _ _ _ bytes-content c.in-6.is c.content.ensures c.uuid_of.ensures
 
-pub returns : goal.returns
-returns c = kind-refused (resolve_uuid UuidForm.bytes) _ _ c.requires (get_or-all_bytes c.args.v.now (λ i. omega (arith, c.type_inv.v i))) 6 (λ w e. uuid-bytes-other _ w e c.if-v-eq-UUID.false c.if-v-eq-BYTES.false) _
+pub returns-in_default : goal.returns-in_default
+returns-in_default c = kind-refused (resolve_uuid UuidForm.bytes) _ _ c.requires (get_or-all_bytes c.args.v.now (λ i. omega (arith, c.type_inv.v i))) _ (λ w e. uuid-bytes-other _ w e (λ k. omega arith) (λ k. omega arith)) _

@@ -1,5 +1,6 @@
 -- `octets::resolve_uuid_fixed` meets its contract.
 use native.Mathlib.Omega.{arith}
+use mathlib.Core.Logic.{inl, inr}
 use Rattle.number.proofs.Laws.{get_or-all_bytes}
 use Rattle.frame.specs.Tree.{UuidForm, kind_of, octets}
 use Rattle.frame.proofs.ValueNodes.{value_there}
@@ -14,31 +15,23 @@ pub bounds-v-0 : goal.bounds-v-0
 bounds-v-0 c = (value_there _ _ c.requires).1
 
 pub slice_bounds-put_plain-end : goal.slice_bounds-put_plain-end
-slice_bounds-put_plain-end c = (plain-node _ _ c.requires 15 16 uuid-content c.if-v-eq-UUID.true).0
+slice_bounds-put_plain-end c = (plain-node _ _ c.requires 15 16 uuid-content c.in-15.is).0
 
-pub returns-then-v-eq-UUID : goal.returns-then-v-eq-UUID
+pub returns-in-15 : goal.returns-in-15
 unfolding resolve_uuid kind_of octets
-returns-then-v-eq-UUID c = on-plain (resolve_uuid (UuidForm.fixed c.args.size)) _ _ c.requires 15 16 _ _ uuid-content c.if-v-eq-UUID.true (wrote-plain 15 16 _ _ _ uuid-content c.put_plain.ensures)
-
-pub bounds-v-0-2 : goal.bounds-v-0-2
-bounds-v-0-2 c = (value_there _ _ c.requires).1
+returns-in-15 c = on-plain (resolve_uuid (UuidForm.fixed c.args.size)) _ _ c.requires 15 16 _ _ uuid-content c.in-15.is (wrote-plain 15 16 _ _ _ uuid-content c.put_plain.ensures)
 
 pub content-requires : goal.content-requires
-content-requires c = counted-reads _ _ c.requires 13 fixed-content c.if-v-eq-FIXED.true
+content-requires c =
+    elim c.in-13.is [ inl e ↦ text-reads-counted _ _ c.requires 7 string-content e | inr e ↦ counted-reads _ _ c.requires 13 fixed-content e ]
 
-pub returns-then-v-eq-FIXED : goal.returns-then-v-eq-FIXED
+pub returns-in-13 : goal.returns-in-13
 unfolding resolve_uuid kind_of octets
-returns-then-v-eq-FIXED c = on-counted (resolve_uuid (UuidForm.fixed c.args.size)) _ _ c.requires 13 _ _ _ fixed-content c.if-v-eq-FIXED.true c.content.ensures c.uuid_of.ensures
+returns-in-13 c =
+    elim c.in-13.is [
+      | inl e ↦ on-text (resolve_uuid (UuidForm.fixed c.args.size)) _ _ c.requires _ _ _ e c.content.ensures c.uuid_of.ensures
+      | inr e ↦ on-counted (resolve_uuid (UuidForm.fixed c.args.size)) _ _ c.requires 13 _ _ _ fixed-content e c.content.ensures c.uuid_of.ensures
+    ]
 
-pub bounds-v-0-3 : goal.bounds-v-0-3
-bounds-v-0-3 c = (value_there _ _ c.requires).1
-
-pub content-requires-then-v-eq-STRING : goal.content-requires-then-v-eq-STRING
-content-requires-then-v-eq-STRING c = text-reads-counted _ _ c.requires 7 string-content c.if-v-eq-STRING.true
-
-pub returns-then-v-eq-STRING : goal.returns-then-v-eq-STRING
-unfolding resolve_uuid kind_of octets
-returns-then-v-eq-STRING c = on-text (resolve_uuid (UuidForm.fixed c.args.size)) _ _ c.requires _ _ _ c.if-v-eq-STRING.true c.content-then-v-eq-STRING.ensures c.uuid_of-then-v-eq-STRING.ensures
-
-pub returns : goal.returns
-returns c = kind-refused (resolve_uuid (UuidForm.fixed c.args.size)) _ _ c.requires (get_or-all_bytes c.args.v.now (λ i. omega (arith, c.type_inv.v i))) 6 (λ w e. uuid-fixed-other _ w e _ c.if-v-eq-UUID.false c.if-v-eq-FIXED.false c.if-v-eq-STRING.false) _
+pub returns-in_default : goal.returns-in_default
+returns-in_default c = kind-refused (resolve_uuid (UuidForm.fixed c.args.size)) _ _ c.requires (get_or-all_bytes c.args.v.now (λ i. omega (arith, c.type_inv.v i))) _ (λ w e. uuid-fixed-other _ w e _ (λ k. grind arith) (λ k. grind arith) (λ k. grind arith)) _

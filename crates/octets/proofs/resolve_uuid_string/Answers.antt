@@ -14,21 +14,18 @@ pub bounds-v-0 : goal.bounds-v-0
 bounds-v-0 c = (value_there _ _ c.requires).1
 
 pub slice_bounds-put_plain-end : goal.slice_bounds-put_plain-end
-slice_bounds-put_plain-end c = (plain-node _ _ c.requires 15 16 uuid-content c.if-v-eq-UUID.true).0
+slice_bounds-put_plain-end c = (plain-node _ _ c.requires 15 16 uuid-content c.in-15.is).0
 
-pub returns-then-v-eq-UUID : goal.returns-then-v-eq-UUID
+pub returns-in-15 : goal.returns-in-15
 unfolding resolve_uuid kind_of octets
-returns-then-v-eq-UUID c = on-plain (resolve_uuid UuidForm.string) _ _ c.requires 15 16 _ _ uuid-content c.if-v-eq-UUID.true (wrote-plain 15 16 _ _ _ uuid-content c.put_plain.ensures)
-
-pub bounds-v-0-2 : goal.bounds-v-0-2
-bounds-v-0-2 c = (value_there _ _ c.requires).1
+returns-in-15 c = on-plain (resolve_uuid UuidForm.string) _ _ c.requires 15 16 _ _ uuid-content c.in-15.is (wrote-plain 15 16 _ _ _ uuid-content c.put_plain.ensures)
 
 pub content-requires : goal.content-requires
-content-requires c = text-reads-counted _ _ c.requires 7 string-content c.if-v-eq-STRING.true
+content-requires c = text-reads-counted _ _ c.requires 7 string-content c.in-7.is
 
-pub returns-then-v-eq-STRING : goal.returns-then-v-eq-STRING
+pub returns-in-7 : goal.returns-in-7
 unfolding resolve_uuid kind_of octets
-returns-then-v-eq-STRING c = on-text (resolve_uuid UuidForm.string) _ _ c.requires _ _ _ c.if-v-eq-STRING.true c.content.ensures c.uuid_text.ensures
+returns-in-7 c = on-text (resolve_uuid UuidForm.string) _ _ c.requires _ _ _ c.in-7.is c.content.ensures c.uuid_text.ensures
 
-pub returns : goal.returns
-returns c = kind-refused (resolve_uuid UuidForm.string) _ _ c.requires (get_or-all_bytes c.args.v.now (λ i. omega (arith, c.type_inv.v i))) 6 (λ w e. uuid-string-other _ w e c.if-v-eq-UUID.false c.if-v-eq-STRING.false) _
+pub returns-in_default : goal.returns-in_default
+returns-in_default c = kind-refused (resolve_uuid UuidForm.string) _ _ c.requires (get_or-all_bytes c.args.v.now (λ i. omega (arith, c.type_inv.v i))) _ (λ w e. uuid-string-other _ w e (λ k. omega arith) (λ k. omega arith)) _

@@ -10,6 +10,6 @@ pub returns-then-t-eq16 : goal.returns-then-t-eq16
 unfolding uuid_of_bytes
 returns-then-t-eq16 c = wrote_then _ _ _ _ _ (eq-eqb _ _ c.if-t-eq16.true) (wrote-plain 15 16 _ _ _ uuid-content c.put_plain.ensures)
 
-pub returns : goal.returns
+pub returns-else-t-eq16 : goal.returns-else-t-eq16
 unfolding uuid_of_bytes
-returns c = wrote-else _ _ _ _ _ (ne_eqb _ _ c.if-t-eq16.false) (refused-with _ _)
+returns-else-t-eq16 c = wrote-else _ _ _ _ _ (ne_eqb _ _ c.if-t-eq16.false) (refused-with _ _)

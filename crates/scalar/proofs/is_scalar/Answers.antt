@@ -1,20 +1,25 @@
 -- `scalar::is_scalar` meets its contract: the tests of `is_scalar`.
-use mathlib.Core.Path.{refl, sym, ap}
-use mathlib.Core.Bool.{Bool, false}
-use lib.Dec.{leb, ltb}
-use borrow.Author.Tests.{lt-ltb, le-ltb}
-use Rattle.base.specs.Base.{when◌then◌else◌}
+use Rattle.std.proofs.Common.{arith}
+use Rattle.std.proofs.lemmas.Bool.Decides.{nat_tests}
 use Rattle.scalar.specs.Scalars.{is_scalar}
 use Rattle.scalar.proofs.is_scalar.Goals as goal
 
-pub returns-then-k-lt6 : goal.returns-then-k-lt6
+pub returns-in-2-to-5 : goal.returns-in-2-to-5
 unfolding is_scalar
-returns-then-k-lt6 c = sym (ap (λ (t : Bool). when t then leb 0x02 c.args.k else when ltb c.args.k 0x10 then false else leb c.args.k 0x18) (lt-ltb c.args.k 0x06 c.if-k-lt6.true))
+returns-in-2-to-5 c = grind (arith, nat_tests)
 
-pub returns-then-k-lt16 : goal.returns-then-k-lt16
+pub returns-in-2-to-5-2 : goal.returns-in-2-to-5-2
 unfolding is_scalar
-returns-then-k-lt16 c = let k = c.args.k in sym (rw (le-ltb k 0x06 c.if-k-lt6.false, lt-ltb k 0x10 c.if-k-lt16.true) refl)
+returns-in-2-to-5-2 c = grind (arith, nat_tests)
 
-pub returns : goal.returns
+pub returns-in_default : goal.returns-in_default
 unfolding is_scalar
-returns c = let k = c.args.k in sym (rw (le-ltb k 0x06 c.if-k-lt6.false, le-ltb k 0x10 c.if-k-lt16.false) refl)
+returns-in_default c = grind (arith, nat_tests)
+
+pub returns-in_default-2 : goal.returns-in_default-2
+unfolding is_scalar
+returns-in_default-2 c = grind (arith, nat_tests)
+
+pub returns-in_default-3 : goal.returns-in_default-3
+unfolding is_scalar
+returns-in_default-3 c = grind (arith, nat_tests)

@@ -8,6 +8,6 @@ pub returns-then-k-lt6 : goal.returns-then-k-lt6
 unfolding is_short
 returns-then-k-lt6 c = let k = c.args.k in sym (rw (lt-ltb k 0x06 c.if-k-lt6.true) refl)
 
-pub returns : goal.returns
+pub returns-else-k-lt6 : goal.returns-else-k-lt6
 unfolding is_short
-returns c = let k = c.args.k in sym (rw (le-ltb k 0x06 c.if-k-lt6.false) refl)
+returns-else-k-lt6 c = let k = c.args.k in sym (rw (le-ltb k 0x06 c.if-k-lt6.false) refl)

@@ -1,6 +1,7 @@
 -- `scalar::long_time` meets its contract: each return is a case of `time_of`.
 use mathlib.Core.Path.{sym, ap, ◌∙◌}
 use Prim.Native.Nat.{ℕ}
+use native.Mathlib.Omega.{arith}
 use mir.Syntax.{w64}
 use mir.ValLaws.{to_z-of_z}
 use Rattle.scalar.specs.Scalars.{time_of}
@@ -8,37 +9,37 @@ use Rattle.scalar.specs.declared.Scalar.TheVariants.{TimeMicros, TimestampMillis
 use Rattle.scalar.proofs.Scalars.{last-time}
 use Rattle.scalar.proofs.long_time.Goals as goal
 
-pub returns-then-k-eq18 : goal.returns-then-k-eq18
+pub returns-in-18 : goal.returns-in-18
 unfolding time_of
-returns-then-k-eq18 c =
-    ap TimeMicros (to_z-of_z w64 c.args.n c.ranges.n) ∙ sym (ap (λ (k : ℕ). time_of k c.args.n) c.if-k-eq18.true)
+returns-in-18 c =
+    ap TimeMicros (to_z-of_z w64 c.args.n c.ranges.n) ∙ sym (ap (λ (k : ℕ). time_of k c.args.n) c.in-18.is)
 
-pub returns-then-k-eq19 : goal.returns-then-k-eq19
+pub returns-in-19 : goal.returns-in-19
 unfolding time_of
-returns-then-k-eq19 c =
-    ap TimestampMillis (to_z-of_z w64 c.args.n c.ranges.n) ∙ sym (ap (λ (k : ℕ). time_of k c.args.n) c.if-k-eq19.true)
+returns-in-19 c =
+    ap TimestampMillis (to_z-of_z w64 c.args.n c.ranges.n) ∙ sym (ap (λ (k : ℕ). time_of k c.args.n) c.in-19.is)
 
-pub returns-then-k-eq20 : goal.returns-then-k-eq20
+pub returns-in-20 : goal.returns-in-20
 unfolding time_of
-returns-then-k-eq20 c =
-    ap TimestampMicros (to_z-of_z w64 c.args.n c.ranges.n) ∙ sym (ap (λ (k : ℕ). time_of k c.args.n) c.if-k-eq20.true)
+returns-in-20 c =
+    ap TimestampMicros (to_z-of_z w64 c.args.n c.ranges.n) ∙ sym (ap (λ (k : ℕ). time_of k c.args.n) c.in-20.is)
 
-pub returns-then-k-eq21 : goal.returns-then-k-eq21
+pub returns-in-21 : goal.returns-in-21
 unfolding time_of
-returns-then-k-eq21 c =
-    ap TimestampNanos (to_z-of_z w64 c.args.n c.ranges.n) ∙ sym (ap (λ (k : ℕ). time_of k c.args.n) c.if-k-eq21.true)
+returns-in-21 c =
+    ap TimestampNanos (to_z-of_z w64 c.args.n c.ranges.n) ∙ sym (ap (λ (k : ℕ). time_of k c.args.n) c.in-21.is)
 
-pub returns-then-k-eq22 : goal.returns-then-k-eq22
+pub returns-in-22 : goal.returns-in-22
 unfolding time_of
-returns-then-k-eq22 c =
-    ap LocalTimestampMillis (to_z-of_z w64 c.args.n c.ranges.n) ∙ sym (ap (λ (k : ℕ). time_of k c.args.n) c.if-k-eq22.true)
+returns-in-22 c =
+    ap LocalTimestampMillis (to_z-of_z w64 c.args.n c.ranges.n) ∙ sym (ap (λ (k : ℕ). time_of k c.args.n) c.in-22.is)
 
-pub returns-then-k-eq23 : goal.returns-then-k-eq23
+pub returns-in-23 : goal.returns-in-23
 unfolding time_of
-returns-then-k-eq23 c =
-    ap LocalTimestampMicros (to_z-of_z w64 c.args.n c.ranges.n) ∙ sym (ap (λ (k : ℕ). time_of k c.args.n) c.if-k-eq23.true)
+returns-in-23 c =
+    ap LocalTimestampMicros (to_z-of_z w64 c.args.n c.ranges.n) ∙ sym (ap (λ (k : ℕ). time_of k c.args.n) c.in-23.is)
 
-pub returns : goal.returns
-returns c =
+pub returns-in_default : goal.returns-in_default
+returns-in_default c =
     ap LocalTimestampNanos (to_z-of_z w64 c.args.n c.ranges.n)
-    ∙ sym (last-time c.args.k c.args.n c.requires c.if-k-eq18.false c.if-k-eq19.false c.if-k-eq20.false c.if-k-eq21.false c.if-k-eq22.false c.if-k-eq23.false)
+    ∙ sym (last-time c.args.k c.args.n c.requires (λ e. omega arith) (λ e. omega arith) (λ e. omega arith) (λ e. omega arith) (λ e. omega arith) (λ e. omega arith))

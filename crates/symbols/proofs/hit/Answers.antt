@@ -1,9 +1,10 @@
 -- `symbols::hit` meets its contract.
+use native.Mathlib.Omega.{arith}
 use Rattle.symbols.proofs.RoundLaws.{hit-symbol, hit-default}
 use Rattle.symbols.proofs.hit.Goals as goal
 
-pub returns-then-from-eq0 : goal.returns-then-from-eq0
-returns-then-from-eq0 c = hit-symbol _ _ c.if-from-eq0.true
+pub returns-in-0 : goal.returns-in-0
+returns-in-0 c = hit-symbol _ _ (omega arith)
 
-pub returns : goal.returns
-returns c = hit-default _ _ c.if-from-eq0.false
+pub returns-in_default : goal.returns-in_default
+returns-in_default c = hit-default _ _ (λ e. omega arith)

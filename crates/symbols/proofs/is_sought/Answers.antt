@@ -18,5 +18,5 @@ slice_bounds-content-start c = place_inside _ _ (c.requires c.if-from-eq0.false)
 pub content-requires : goal.content-requires
 content-requires c = rw part_to_end (c.requires c.if-from-eq0.false)
 
-pub returns : goal.returns
-returns c = c.same-2.ensures ∙ ap (same c.args.word.now) (sought-later c.args.s.now c.args.t.now _ _ _ c.if-from-eq0.false (rw part_to_end at c.content.ensures.0))
+pub returns-else-from-eq0 : goal.returns-else-from-eq0
+returns-else-from-eq0 c = c.same-else-from-eq0.ensures ∙ ap (same c.args.word.now) (sought-later c.args.s.now c.args.t.now _ _ _ c.if-from-eq0.false (rw part_to_end at c.content.ensures.0))

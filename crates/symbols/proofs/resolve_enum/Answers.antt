@@ -19,37 +19,34 @@ pub slice_bounds-enum_of-start : goal.slice_bounds-enum_of-start
 slice_bounds-enum_of-start c = omega (arith, (schema-there c.args.ds c.args.s.now c.requires.0).1)
 
 pub slice_bounds-content-count : goal.slice_bounds-content-count
-slice_bounds-content-count c = omega (arith, symbol-there c.args.depth c.args.v.now c.requires.2 c.if-v-eq-ENUM.true)
+slice_bounds-content-count c = omega (arith, symbol-there c.args.depth c.args.v.now c.requires.2 c.in-12.is)
 
 pub slice_bounds-content-start : goal.slice_bounds-content-start
-slice_bounds-content-start c = omega (arith, symbol-there c.args.depth c.args.v.now c.requires.2 c.if-v-eq-ENUM.true)
+slice_bounds-content-start c = omega (arith, symbol-there c.args.depth c.args.v.now c.requires.2 c.in-12.is)
 
 pub content-requires : goal.content-requires
-content-requires c = rw part_to_end (symbol-counted c.args.depth c.args.v.now c.requires.2 c.if-v-eq-ENUM.true)
+content-requires c = rw part_to_end (symbol-counted c.args.depth c.args.v.now c.requires.2 c.in-12.is)
 
 pub enum_of-requires : goal.enum_of-requires
 enum_of-requires c = (rw part_to_end (schema-symbols c.args.ds c.args.s.now c.requires.0 c.requires.1), c.content.ensures.1.1)
 
-pub returns-then-v-eq-ENUM : goal.returns-then-v-eq-ENUM
-returns-then-v-eq-ENUM c = enum-way c.args.ds c.args.s.now c.requires.0 c.requires.1 c.args.depth c.args.v.now _ _ (symbol-node c.args.depth c.args.v.now c.requires.2 c.if-v-eq-ENUM.true _ _ (rw part_to_end at c.content.ensures.0)) _ _ _ (enum-symbol _ _) (rw part_to_end at c.enum_of.ensures)
+pub returns-in-12 : goal.returns-in-12
+returns-in-12 c = enum-way c.args.ds c.args.s.now c.requires.0 c.requires.1 c.args.depth c.args.v.now _ _ (symbol-node c.args.depth c.args.v.now c.requires.2 c.in-12.is _ _ (rw part_to_end at c.content.ensures.0)) _ _ _ (enum-symbol _ _) (rw part_to_end at c.enum_of.ensures)
 
-pub bounds-v-0-2 : goal.bounds-v-0-2
-bounds-v-0-2 c = (value_there _ _ c.requires.2).1
+pub slice_bounds-enum_of-count-in-7 : goal.slice_bounds-enum_of-count-in-7
+slice_bounds-enum_of-count-in-7 c = omega (arith, (schema-there c.args.ds c.args.s.now c.requires.0).1)
 
-pub slice_bounds-enum_of-count-then-v-eq-STRING : goal.slice_bounds-enum_of-count-then-v-eq-STRING
-slice_bounds-enum_of-count-then-v-eq-STRING c = omega (arith, (schema-there c.args.ds c.args.s.now c.requires.0).1)
+pub slice_bounds-enum_of-start-in-7 : goal.slice_bounds-enum_of-start-in-7
+slice_bounds-enum_of-start-in-7 c = omega (arith, (schema-there c.args.ds c.args.s.now c.requires.0).1)
 
-pub slice_bounds-enum_of-start-then-v-eq-STRING : goal.slice_bounds-enum_of-start-then-v-eq-STRING
-slice_bounds-enum_of-start-then-v-eq-STRING c = omega (arith, (schema-there c.args.ds c.args.s.now c.requires.0).1)
+pub content-requires-in-7 : goal.content-requires-in-7
+content-requires-in-7 c = text-reads-counted _ _ c.requires.2 7 string-content c.in-7.is
 
-pub content-requires-then-v-eq-STRING : goal.content-requires-then-v-eq-STRING
-content-requires-then-v-eq-STRING c = text-reads-counted _ _ c.requires.2 7 string-content c.if-v-eq-STRING.true
+pub enum_of-requires-in-7 : goal.enum_of-requires-in-7
+enum_of-requires-in-7 c = (rw part_to_end (schema-symbols c.args.ds c.args.s.now c.requires.0 c.requires.1), c.content-in-7.ensures.short)
 
-pub enum_of-requires-then-v-eq-STRING : goal.enum_of-requires-then-v-eq-STRING
-enum_of-requires-then-v-eq-STRING c = (rw part_to_end (schema-symbols c.args.ds c.args.s.now c.requires.0 c.requires.1), c.content-then-v-eq-STRING.ensures.short)
+pub returns-in-7 : goal.returns-in-7
+returns-in-7 c = enum-way c.args.ds c.args.s.now c.requires.0 c.requires.1 c.args.depth c.args.v.now _ _ (text-node _ _ c.requires.2 7 string-content c.in-7.is _ _ c.content-in-7.ensures.counted).0 _ _ _ (string-symbol _) (rw part_to_end at c.enum_of-in-7.ensures)
 
-pub returns-then-v-eq-STRING : goal.returns-then-v-eq-STRING
-returns-then-v-eq-STRING c = enum-way c.args.ds c.args.s.now c.requires.0 c.requires.1 c.args.depth c.args.v.now _ _ (text-node _ _ c.requires.2 7 string-content c.if-v-eq-STRING.true _ _ c.content-then-v-eq-STRING.ensures.counted).0 _ _ _ (string-symbol _) (rw part_to_end at c.enum_of-then-v-eq-STRING.ensures)
-
-pub returns : goal.returns
-returns c = enum-other c.args.ds c.args.s.now c.requires.0 c.requires.1 c.args.depth c.args.v.now _ c.requires.2 (get_or-all_bytes c.args.v.now (λ i. omega (arith, c.type_inv.v i))) c.if-v-eq-ENUM.false c.if-v-eq-STRING.false
+pub returns-in_default : goal.returns-in_default
+returns-in_default c = enum-other c.args.ds c.args.s.now c.requires.0 c.requires.1 c.args.depth c.args.v.now _ c.requires.2 (get_or-all_bytes c.args.v.now (λ i. omega (arith, c.type_inv.v i))) (λ k. omega arith) (λ k. omega arith)

@@ -8,8 +8,8 @@ returns-then-not-rises c = splits-all _ _ _ _
 pub below-requires : goal.below-requires
 below-requires c = (c.requires.0, c.requires.1 (c.if-not-rises.false))
 
-pub returns-in-Nothing : goal.returns-in-Nothing
-returns-in-Nothing c = splits-all _ _ _ _
+pub returns-in-None : goal.returns-in-None
+returns-in-None c = splits-all _ _ _ _
 
-pub returns-in-At : goal.returns-in-At
-returns-in-At c = splits-at _ _ _ _ _ _ c.in-At.is c.below.ensures
+pub returns-in-Some : goal.returns-in-Some
+returns-in-Some c = splits-at _ _ _ _ _ _ c.in-Some.is c.below.ensures

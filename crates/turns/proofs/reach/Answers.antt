@@ -1,6 +1,5 @@
 -- `turns::reach` meets its contract.
 use native.Mathlib.Omega.{arith}
-use Prim.Native.Nat.{◌-◌}
 use mathlib.Core.Path.{◌≡◌, subst}
 use lib.ListN.{length-drop}
 use borrow.Author.Rules.{part_to_end}
@@ -13,38 +12,26 @@ use Rattle.turns.proofs.reach.Goals as goal
 pub variant_at-requires : goal.variant_at-requires
 variant_at-requires c = (ready-reads _ _ c.requires.0.schema, c.requires.0.kind, c.requires.1)
 
-pub returns-then-i-j : goal.returns-then-i-j
-returns-then-i-j c = c.variant_at.ensures
-
-pub loop-j-init : goal.loop-j-init
-loop-j-init c = (omega arith, c.requires.2)
+pub returns-then-i-from : goal.returns-then-i-from
+returns-then-i-from c = c.variant_at.ensures
 
 pub slice_bounds-schema_len-count : goal.slice_bounds-schema_len-count
-slice_bounds-schema_len-count c = c.loop-j.invariant.1.inside
+slice_bounds-schema_len-count c = c.loop.invariant.inside
 
 pub slice_bounds-schema_len-start : goal.slice_bounds-schema_len-start
-slice_bounds-schema_len-start c = c.loop-j.invariant.1.inside
-
-pub slice_bounds-schema_len-end : goal.slice_bounds-schema_len-end
-slice_bounds-schema_len-end c = omega arith
+slice_bounds-schema_len-start c = c.loop.invariant.inside
 
 pub overflow_sub-depth : goal.overflow_sub-depth
 overflow_sub-depth c = (schema-there _ _ (ready-reads _ _ c.requires.0.schema)).0
 
 pub schema_len-at-requires : goal.schema_len-at-requires
-schema_len-at-requires c = rw part_to_end (passed_reads _ _ _ _ c.loop-j.invariant.1 (omega (arith, c.requires.1, c.loop-j-test.true)))
+schema_len-at-requires c = rw part_to_end (passed_reads _ _ _ _ c.loop.invariant (omega (arith, c.requires.1, c.loop-test.true)))
 
 pub overflow_add-at : goal.overflow_add-at
-overflow_add-at c = omega (arith, spans-le _ _ _ (rw part_to_end at c.schema_len-at.ensures), length-drop c.loop-j.at c.args.s.now, c.loop-j.invariant.1.inside)
+overflow_add-at c = omega (arith, spans-le _ _ _ (rw part_to_end at c.schema_len-at.ensures), length-drop c.loop.at c.args.s.now, c.loop.invariant.inside)
 
-pub overflow_add-j : goal.overflow_add-j
-overflow_add-j c = omega arith
-
-pub loop-j-smaller : goal.loop-j-smaller
-loop-j-smaller c = omega arith
-
-pub loop-j-preserved : goal.loop-j-preserved
-loop-j-preserved c = (omega arith, passed-step _ _ _ _ c.loop-j.invariant.1 (omega (arith, c.requires.1, c.loop-j-test.true)) _ (rw part_to_end at c.schema_len-at.ensures))
+pub loop-preserved : goal.loop-preserved
+loop-preserved c = passed-step _ _ _ _ c.loop.invariant (omega (arith, c.requires.1, c.loop-test.true)) _ (rw part_to_end at c.schema_len-at.ensures)
 
 pub returns : goal.returns
-returns c = let e : c.loop-j.j ≡ c.args.i = omega arith in subst (λ k. VariantAt c.args.depth c.args.s.now k c.loop-j.at) e c.loop-j.invariant.1
+returns c = let e : c.loop.counter ≡ c.args.i = omega arith in subst (λ k. VariantAt c.args.depth c.args.s.now k c.loop.at) e c.loop.invariant

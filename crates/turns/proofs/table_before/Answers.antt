@@ -1,4 +1,5 @@
 -- `turns::table_before` meets its contract.
+use mathlib.Core.Logic.{⊎_elim}
 use Rattle.turns.specs.Turns.{table_before}
 use Rattle.turns.proofs.table_before.Goals as goal
 
@@ -8,12 +9,4 @@ returns-in-Before c = rw c.in-Before.is c.sooner.ensures
 
 pub returns-in-Table : goal.returns-in-Table
 unfolding table_before
-returns-in-Table c = rw c.in-Table.is
-
-pub returns-in-Behind : goal.returns-in-Behind
-unfolding table_before
-returns-in-Behind c = rw c.in-Behind.is
-
-pub returns-in-Any : goal.returns-in-Any
-unfolding table_before
-returns-in-Any c = rw c.in-Any.is
+returns-in-Table c = ⊎_elim (λ e. rw e) (⊎_elim (λ e. rw e.1) (λ e. rw e.1)) c.in-Table.is

@@ -16,8 +16,8 @@ is_rising-rises-requires c = (on_read _ _ _ _ c.requires.schema.reads c.named_at
 pub named_before-before-requires : goal.named_before-before-requires
 named_before-before-requires c = ((on_read _ _ _ _ c.requires.schema.reads c.named_at-named.ensures).inside, c.is_rising-rises.ensures)
 
-pub returns-in-Any : goal.returns-in-Any
-returns-in-Any c = goes-unnamed _ _ c.requires _ _ c.unnamed_kind.ensures _ c.table_position-table.ensures _ c.named_kind.ensures c.in-Any.is _ refl
+pub returns-in-None : goal.returns-in-None
+returns-in-None c = goes-unnamed _ _ c.requires _ _ c.unnamed_kind.ensures _ c.table_position-table.ensures _ c.named_kind.ensures c.in-None.is _ refl
 
-pub returns-in-Kind : goal.returns-in-Kind
-returns-in-Kind c = goes-named _ _ c.requires _ _ c.unnamed_kind.ensures _ c.table_position-table.ensures _ c.named_kind.ensures _ c.in-Kind.is _ c.named_at-named.ensures _ _ c.named_before-before.ensures _ refl
+pub returns-in-Some : goal.returns-in-Some
+returns-in-Some c = goes-named _ _ c.requires _ _ c.unnamed_kind.ensures _ c.table_position-table.ensures _ c.named_kind.ensures _ c.in-Some.is _ c.named_at-named.ensures _ _ c.named_before-before.ensures _ refl

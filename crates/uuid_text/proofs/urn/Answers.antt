@@ -21,9 +21,9 @@ returns-then-same c =
     c.groups.ensures ∙ ap (λ (t : List ℕ). parsed (hyphenated t)) all
     ∙ ap (λ (b : Bool). parsed (when b then hyphenated (drop 9 s) else none)) (sym e)
 
-pub returns : goal.returns
+pub returns-else-same : goal.returns-else-same
 unfolding after_urn ascii
-returns c =
+returns-else-same c =
     let s = c.args.s.now in
     let e : same (take 9 s) (ascii "urn:uuid:") ≡ false = sym c.same.ensures ∙ c.if-same.false in
-    c.refused.ensures ∙ ap (λ (b : Bool). parsed (when b then hyphenated (drop 9 s) else none)) (sym e)
+    ap (λ (b : Bool). parsed (when b then hyphenated (drop 9 s) else none)) (sym e)

@@ -1,8 +1,7 @@
 -- What the loops of this cycle of calls keep, and why loops and calls end.
-use Prim.Native.Nat.{◌+◌, ◌*◌, ◌≤◌}
-use mathlib.Core.Path.{◌≡◌}
-use mathlib.Core.Bool.{false}
+use Prim.Native.Nat.{◌+◌, ◌-◌, ◌*◌, ◌≤◌}
 use lib.ListN.{length}
+use Rattle.std.specs.Prelude.{IfSome}
 use Rattle.number.specs.Number.{number_at}
 use Rattle.frame.specs.ValueFrame.{read_entry, read_value}
 use Rattle.frame.specs.Readers.{read_list}
@@ -19,11 +18,8 @@ decreases-content_check l = 4 * l.depth + 3
 abbrev pub decreases-entries_check : goal.decreases-entries_check
 decreases-entries_check l = 4 * l.depth + 2
 
-abbrev pub invariant-entries_check-loop-left : goal.invariant-entries_check-loop-left
-invariant-entries_check-loop-left l = Going (map_read record_of (read_list (read_entry (read_value l.depth)) l.s)) (read_entry (read_value l.depth)) keys_rise l.s l.at l.left l.ok (λ es. keys_rise (record_of es))
-
-abbrev pub decreases-entries_check-loop-left : goal.decreases-entries_check-loop-left
-decreases-entries_check-loop-left l = l.left
+abbrev pub invariant-entries_check-loop : goal.invariant-entries_check-loop
+invariant-entries_check-loop l = Going (map_read record_of (read_list (read_entry (read_value l.depth)) l.s)) (read_entry (read_value l.depth)) keys_rise l.s l.at (l.count - l.counter) l.sound (λ es. keys_rise (record_of es))
 
 abbrev pub decreases-entry_check : goal.decreases-entry_check
 decreases-entry_check l = 4 * l.depth + 1
@@ -31,20 +27,14 @@ decreases-entry_check l = 4 * l.depth + 1
 abbrev pub decreases-items_check : goal.decreases-items_check
 decreases-items_check l = 4 * l.depth + 2
 
-abbrev pub invariant-items_check-loop-left : goal.invariant-items_check-loop-left
-invariant-items_check-loop-left l = Going (map_read array_of (read_list (read_value l.depth) l.s)) (read_value l.depth) keys_rise l.s l.at l.left l.ok (λ vs. keys_rise (array_of vs))
-
-abbrev pub decreases-items_check-loop-left : goal.decreases-items_check-loop-left
-decreases-items_check-loop-left l = l.left
+abbrev pub invariant-items_check-loop : goal.invariant-items_check-loop
+invariant-items_check-loop l = Going (map_read array_of (read_list (read_value l.depth) l.s)) (read_value l.depth) keys_rise l.s l.at (l.count - l.counter) l.sound (λ vs. keys_rise (array_of vs))
 
 abbrev pub decreases-map_check : goal.decreases-map_check
 decreases-map_check l = 4 * l.depth + 2
 
-abbrev pub invariant-map_check-loop-left : goal.invariant-map_check-loop-left
-invariant-map_check-loop-left l = Mapping (read_value l.depth) 9 l.s l.first l.last l.left l.at l.ok × (l.first ≡ false → l.last + 2 + number_at l.s l.last 2 ≤ length l.s)
-
-abbrev pub decreases-map_check-loop-left : goal.decreases-map_check-loop-left
-decreases-map_check-loop-left l = l.left
+abbrev pub invariant-map_check-loop : goal.invariant-map_check-loop
+invariant-map_check-loop l = Mapping (read_value l.depth) 9 l.s l.last (l.count - l.counter) l.at l.sound × IfSome l.last (λ b. b + 2 + number_at l.s b 2 ≤ length l.s)
 
 abbrev pub decreases-union_check : goal.decreases-union_check
 decreases-union_check l = 4 * l.depth + 2

@@ -1,6 +1,7 @@
 -- `value::value_len` and the functions that it calls in a cycle meet their contracts. The depth falls from a node to its content;
 -- within a depth, from the content over its entries to a node. Assumes nothing.
 use native.Mathlib.Omega.{arith}
+use native.Mathlib.Nat.{sub-add-eq}
 use Prim.Native.Nat.{◌≤◌}
 use mathlib.Core.Path.{refl, sym, ◌∙◌}
 use lib.ListN.{length, drop, length-drop}
@@ -11,9 +12,7 @@ use Rattle.frame.proofs.ValueNodes.{value_there}
 use Rattle.text.proofs.ReadLaws.{reads-text}
 use Rattle.value_parts.specs.declared.Shape.TheVariants as S
 use Rattle.value.proofs.SkipLaws.{Known, Skips, content-known, content-spans, entry-counted, entry-node, entry-spans, known-content, value-spans}
-use borrow.Fn.PlainCycle.{is}
 use borrow.Author.Rules.{part_to_end}
-use Rattle.value.proofs.value_len.Reads as value_len
 use Rattle.value.proofs.+measuring.Goals as goal
 
 pub content_len-counted_skip-requires : goal.content_len-counted_skip-requires
@@ -114,25 +113,25 @@ pub content_len-returns-in-Unknown : goal.content_len-returns-in-Unknown
 unfolding Known
 content_len-returns-in-Unknown t c = absurd (content-known (read_value c.args.depth) c.args.k c.args.s.now S.Unknown (sym c.shape_of.ensures ∙ c.in-Unknown.is) c.requires)
 
-pub entries_len-read2-left-requires : goal.entries_len-read2-left-requires
-entries_len-read2-left-requires t c = reads-list (read_entry (read_value c.args.depth)) c.args.s.now c.requires
+pub entries_len-read2-count-requires : goal.entries_len-read2-count-requires
+entries_len-read2-count-requires t c = reads-list (read_entry (read_value c.args.depth)) c.args.s.now c.requires
 
-pub entries_len-loop-left-init : goal.entries_len-loop-left-init
-entries_len-loop-left-init t c = walking_start (read_entry (read_value c.args.depth)) c.args.s.now _ c.requires c.read2-left.ensures
+pub entries_len-loop-init : goal.entries_len-loop-init
+entries_len-loop-init t c = walking_start (read_entry (read_value c.args.depth)) c.args.s.now _ c.requires (omega (arith, c.read2-count.ensures))
 
 pub entries_len-entry_len-at-requires : goal.entries_len-entry_len-at-requires
-entries_len-entry_len-at-requires t c = (omega arith, rw part_to_end (walking-first (read_entry (read_value c.args.depth)) c.args.s.now _ _ c.loop-left.invariant c.requires c.loop-left-test.true))
+entries_len-entry_len-at-requires t c = (omega arith, rw part_to_end (walking-first (read_entry (read_value c.args.depth)) c.args.s.now _ _ c.loop.invariant c.requires (omega arith)))
 
 pub entries_len-overflow_add-at : goal.entries_len-overflow_add-at
 entries_len-overflow_add-at t c =
     let h = spans-le _ _ _ (rw part_to_end at c.entry_len-at.ensures) in
-    omega (arith, length-drop c.loop-left.at c.args.s.now)
+    omega (arith, length-drop c.loop.at c.args.s.now)
 
-pub entries_len-loop-left-preserved : goal.entries_len-loop-left-preserved
-entries_len-loop-left-preserved t c = walking-step (read_entry (read_value c.args.depth)) c.args.s.now _ _ c.loop-left.invariant _ c.loop-left-test.true (rw part_to_end at c.entry_len-at.ensures)
+pub entries_len-loop-preserved : goal.entries_len-loop-preserved
+entries_len-loop-preserved t c = rw sub-add-eq (walking-step (read_entry (read_value c.args.depth)) c.args.s.now _ _ c.loop.invariant _ (omega arith) (rw part_to_end at c.entry_len-at.ensures))
 
 pub entries_len-returns : goal.entries_len-returns
-entries_len-returns t c = walking-end (read_entry (read_value c.args.depth)) c.args.s.now _ _ c.loop-left.invariant c.loop-left-test.false
+entries_len-returns t c = walking-end (read_entry (read_value c.args.depth)) c.args.s.now _ _ c.loop.invariant (omega arith)
 
 pub entry_len-counted_skip-k-requires : goal.entry_len-counted_skip-k-requires
 entry_len-counted_skip-k-requires t c = entry-counted (read_value c.args.depth) c.args.s.now c.requires
@@ -155,25 +154,25 @@ entry_len-overflow_add-result t c =
 pub entry_len-returns : goal.entry_len-returns
 entry_len-returns t c = entry-spans (read_value c.args.depth) c.args.s.now c.requires _ _ c.counted_skip-k.ensures (rw part_to_end at c.value_len.ensures)
 
-pub items_len-read2-left-requires : goal.items_len-read2-left-requires
-items_len-read2-left-requires t c = reads-list (read_value c.args.depth) c.args.s.now c.requires
+pub items_len-read2-count-requires : goal.items_len-read2-count-requires
+items_len-read2-count-requires t c = reads-list (read_value c.args.depth) c.args.s.now c.requires
 
-pub items_len-loop-left-init : goal.items_len-loop-left-init
-items_len-loop-left-init t c = walking_start (read_value c.args.depth) c.args.s.now _ c.requires c.read2-left.ensures
+pub items_len-loop-init : goal.items_len-loop-init
+items_len-loop-init t c = walking_start (read_value c.args.depth) c.args.s.now _ c.requires (omega (arith, c.read2-count.ensures))
 
 pub items_len-value_len-at-requires : goal.items_len-value_len-at-requires
-items_len-value_len-at-requires t c = (omega arith, rw part_to_end (walking-first (read_value c.args.depth) c.args.s.now _ _ c.loop-left.invariant c.requires c.loop-left-test.true))
+items_len-value_len-at-requires t c = (omega arith, rw part_to_end (walking-first (read_value c.args.depth) c.args.s.now _ _ c.loop.invariant c.requires (omega arith)))
 
 pub items_len-overflow_add-at : goal.items_len-overflow_add-at
 items_len-overflow_add-at t c =
     let h = spans-le _ _ _ (rw part_to_end at c.value_len-at.ensures) in
-    omega (arith, length-drop c.loop-left.at c.args.s.now)
+    omega (arith, length-drop c.loop.at c.args.s.now)
 
-pub items_len-loop-left-preserved : goal.items_len-loop-left-preserved
-items_len-loop-left-preserved t c = walking-step (read_value c.args.depth) c.args.s.now _ _ c.loop-left.invariant _ c.loop-left-test.true (rw part_to_end at c.value_len-at.ensures)
+pub items_len-loop-preserved : goal.items_len-loop-preserved
+items_len-loop-preserved t c = rw sub-add-eq (walking-step (read_value c.args.depth) c.args.s.now _ _ c.loop.invariant _ (omega arith) (rw part_to_end at c.value_len-at.ensures))
 
 pub items_len-returns : goal.items_len-returns
-items_len-returns t c = walking-end (read_value c.args.depth) c.args.s.now _ _ c.loop-left.invariant c.loop-left-test.false
+items_len-returns t c = walking-end (read_value c.args.depth) c.args.s.now _ _ c.loop.invariant (omega arith)
 
 pub value_len-slice_bounds-content_len-count : goal.value_len-slice_bounds-content_len-count
 value_len-slice_bounds-content_len-count t c = (value_there c.args.depth c.args.s.now c.requires).1

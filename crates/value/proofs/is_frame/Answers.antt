@@ -1,13 +1,18 @@
 -- `value::is_frame` meets its contract: the verdict that number 5 passes.
-use mathlib.Core.Path.{sym, ap, ◌∙◌}
+use mathlib.Core.Path.{◌≡◌, refl, sym, ap, ◌∙◌}
+use mathlib.Core.Bool.{false}
+use Rattle.frame.specs.declared.Verdict.{Verdict}
+use Rattle.frame.specs.declared.Verdict.TheVariants.{NoFrame, Unsound, Sound}
 use Rattle.frame.proofs.Passed.{is_sound, accepted-verdict}
 use Rattle.value.proofs.is_frame.Goals as goal
 
-pub returns-in-NoFrame : goal.returns-in-NoFrame
-returns-in-NoFrame c = sym (accepted-verdict c.args.s.now ∙ ap is_sound (sym c.value_frame.ensures ∙ c.in-NoFrame.is))
-
-pub returns-in-Unsound : goal.returns-in-Unsound
-returns-in-Unsound c = sym (accepted-verdict c.args.s.now ∙ ap is_sound (sym c.value_frame.ensures ∙ c.in-Unsound.is))
+other : (v : Verdict) → (v ≡ Sound → ⊥) → false ≡ is_sound v
+other NoFrame h = refl
+other Unsound h = refl
+other Sound h = absurd (h refl)
 
 pub returns-in-Sound : goal.returns-in-Sound
 returns-in-Sound c = sym (accepted-verdict c.args.s.now ∙ ap is_sound (sym c.value_frame.ensures ∙ c.in-Sound.is))
+
+pub returns-in_default : goal.returns-in_default
+returns-in_default c = other _ c.in_default.not-Sound ∙ sym (accepted-verdict c.args.s.now ∙ ap is_sound (sym c.value_frame.ensures))

@@ -1,42 +1,34 @@
 -- `value::key_rises` meets its contract. Assumes nothing.
 use Prim.Native.Nat.{ℕ}
-use mathlib.Core.Path.{◌≡◌}
+use mathlib.Core.Path.{◌≡◌, refl}
 use mathlib.Core.List.{List}
-use mathlib.Core.Bool.{Bool, false}
-use native.Mathlib.Omega.{arith}
+use mathlib.Core.Bool.{Bool}
 use borrow.Author.Rules.{part_to_end}
 use Rattle.text.specs.Text.{less}
-use Rattle.value.specs.Keys.{follows}
+use Rattle.std.specs.Prelude as std
+use Rattle.std.specs.Prelude.{Some}
+use Rattle.std.specs.Option.{option_map}
+use Rattle.value.specs.Keys.{follows, key_at}
 use Rattle.value.proofs.MapLaws.{key_reads, key-is}
 use Rattle.value.proofs.key_rises.Goals as goal
 
-less-of : (first : Bool) (x y a b : List ℕ) (r : Bool) → first ≡ false → r ≡ less x y → x ≡ a → y ≡ b → r ≡ follows first a b
+behind : (s : List ℕ) (before : std.Option ℕ) (b : ℕ) (x y key : List ℕ) (r : Bool) → before ≡ Some b → r ≡ less x y → x ≡ key_at s b → y ≡ key
+    → r ≡ follows (option_map (key_at s) before) key
 unfolding follows
-less-of first x y a b r n e p q = rw (n, ← p, ← q) e
+behind s before b x y key r n e p q = rw (n, ← p, ← q) e
 
-pub returns-then-first : goal.returns-then-first
+pub returns-in-None : goal.returns-in-None
 unfolding follows
-returns-then-first c = rw c.if-first.true
-
-pub slice_bounds-content-count : goal.slice_bounds-content-count
-slice_bounds-content-count c = let h = c.requires.0 c.if-first.false in omega arith
-
-pub slice_bounds-content-start : goal.slice_bounds-content-start
-slice_bounds-content-start c = let h = c.requires.0 c.if-first.false in omega arith
-
-pub slice_bounds-content-end : goal.slice_bounds-content-end
-slice_bounds-content-end c = let h = c.requires.0 c.if-first.false in omega arith
+returns-in-None c = rw c.in-None.is refl
 
 pub content-requires : goal.content-requires
-content-requires c = rw part_to_end (key_reads _ _ (c.requires.0 c.if-first.false))
+content-requires c = rw part_to_end (key_reads _ _ (rw c.in-Some.is at c.requires.0))
 
-pub content-requires-2 : goal.content-requires-2
-content-requires-2 c = rw part_to_end (key_reads _ _ c.requires.1)
+pub content-requires-in-Some : goal.content-requires-in-Some
+content-requires-in-Some c = rw part_to_end (key_reads _ _ c.requires.1)
 
-pub returns : goal.returns
-returns c =
-    let p = c.requires in
-    let n = c.if-first.false in
-    less-of _ _ _ _ _ _ n c.less.ensures
-    (key-is _ _ (p.0 n) _ _ (rw part_to_end at c.content.ensures.0))
-    (key-is _ _ p.1 _ _ (rw part_to_end at c.content-2.ensures.0))
+pub returns-in-Some : goal.returns-in-Some
+returns-in-Some c =
+    behind _ _ _ _ _ _ _ c.in-Some.is c.less.ensures
+    (key-is _ _ (rw c.in-Some.is at c.requires.0) _ _ (rw part_to_end at c.content.ensures.0))
+    (key-is _ _ c.requires.1 _ _ (rw part_to_end at c.content-in-Some.ensures.0))

@@ -10,13 +10,13 @@ use Rattle.value.proofs.symbol_check.Goals as goal
 pub returns-then-s-lt4 : goal.returns-then-s-lt4
 returns-then-s-lt4 c = symbol-short (read_value 0) 12 c.args.s.now c.if-s-lt4.true
 
-pub returns-in_default : goal.returns-in_default
-returns-in_default c = symbol-broken (read_value 0) 12 c.args.s.now c.if-s-lt4.false (rw (c.in_default.is, part_to_end) at c.text_len.ensures)
+pub returns-in_err-n : goal.returns-in_err-n
+returns-in_err-n c = rw c.from_residual.ensures (symbol-broken (read_value 0) 12 c.args.s.now c.if-s-lt4.false (rw part_to_end at c.in_err-n.ensures))
 
 pub overflow_add-result : goal.overflow_add-result
 overflow_add-result c =
-    let h = measured-le _ _ _ (rw (c.in-Of.is, part_to_end) at c.text_len.ensures) in
+    let h = measured-le _ _ _ (rw part_to_end at c.in_ok-n.ensures) in
     omega (arith, length-drop 4 c.args.s.now)
 
 pub returns : goal.returns
-returns c = symbol-some (read_value 0) 12 c.args.s.now _ c.if-s-lt4.false (rw (c.in-Of.is, part_to_end) at c.text_len.ensures)
+returns c = symbol-some (read_value 0) 12 c.args.s.now _ c.if-s-lt4.false (rw part_to_end at c.in_ok-n.ensures)

@@ -18,19 +18,19 @@ unfolding value_verdict decode_value
 returns-in_default c =
     verdict-broken (read_value 16) keys_rise c.args.s.now c.if-s-gt65535.false (rw c.in_default.is at c.value_check.ensures)
 
-pub returns-then-n-s : goal.returns-then-n-s
+pub returns-then-node-s : goal.returns-then-node-s
 unfolding value_verdict decode_value
-returns-then-n-s c =
-    verdict-over (read_value 16) keys_rise c.args.s.now _ _ c.if-s-gt65535.false (rw c.in-Of.is at c.value_check.ensures) c.if-n-s.true
+returns-then-node-s c =
+    verdict-over (read_value 16) keys_rise c.args.s.now _ _ c.if-s-gt65535.false c.in-Some.ensures c.if-node-s.true
 
-pub returns-then-sound : goal.returns-then-sound
+pub returns-then-node : goal.returns-then-node
 unfolding value_verdict decode_value
-returns-then-sound c =
-    ap (λ (b : Bool). when b then Sound else Unsound) (sym c.if-sound.true)
-    ∙ verdict-whole (read_value 16) keys_rise c.args.s.now _ _ c.if-s-gt65535.false (rw c.in-Of.is at c.value_check.ensures) c.if-n-s.false
+returns-then-node c =
+    ap (λ (b : Bool). when b then Sound else Unsound) (sym c.if-node.true)
+    ∙ verdict-whole (read_value 16) keys_rise c.args.s.now _ _ c.if-s-gt65535.false c.in-Some.ensures c.if-node-s.false
 
-pub returns : goal.returns
+pub returns-else-node : goal.returns-else-node
 unfolding value_verdict decode_value
-returns c =
-    ap (λ (b : Bool). when b then Sound else Unsound) (sym c.if-sound.false)
-    ∙ verdict-whole (read_value 16) keys_rise c.args.s.now _ _ c.if-s-gt65535.false (rw c.in-Of.is at c.value_check.ensures) c.if-n-s.false
+returns-else-node c =
+    ap (λ (b : Bool). when b then Sound else Unsound) (sym c.if-node.false)
+    ∙ verdict-whole (read_value 16) keys_rise c.args.s.now _ _ c.if-s-gt65535.false c.in-Some.ensures c.if-node-s.false

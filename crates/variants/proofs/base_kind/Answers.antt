@@ -9,50 +9,46 @@ pub bounds-s-0 : goal.bounds-s-0
 unfolding Reads
 bounds-s-0 c = (schema-there c.args.depth c.args.s.now c.requires).1
 
-pub returns-then-k-lt-DECIMAL : goal.returns-then-k-lt-DECIMAL
+pub returns-in-0-to-13 : goal.returns-in-0-to-13
 unfolding Reads
-returns-then-k-lt-DECIMAL c = low-base c.args.depth c.args.s.now c.requires.0 c.requires.1.0 c.requires.1.1 c.if-k-lt-DECIMAL.true
+returns-in-0-to-13 c = low-base c.args.depth c.args.s.now c.requires.0 c.requires.1.0 c.requires.1.1 (omega arith)
 
 pub bounds-s-9 : goal.bounds-s-9
 unfolding Reads
-bounds-s-9 c = decimal-long c.args.depth c.args.s.now c.requires.0 c.requires.1.0 c.requires.1.1 c.if-k-eq-DECIMAL.true
+bounds-s-9 c = decimal-long c.args.depth c.args.s.now c.requires.0 c.requires.1.0 c.requires.1.1 c.in-14.is
 
 pub returns-then-s-eq0 : goal.returns-then-s-eq0
 unfolding Reads
-returns-then-s-eq0 c = decimal-bytes c.args.depth c.args.s.now c.requires.0 c.requires.1.0 c.requires.1.1 c.if-k-eq-DECIMAL.true c.if-s-eq0.true
+returns-then-s-eq0 c = decimal-bytes c.args.depth c.args.s.now c.requires.0 c.requires.1.0 c.requires.1.1 c.in-14.is c.if-s-eq0.true
 
-pub returns-then-k-eq-DECIMAL : goal.returns-then-k-eq-DECIMAL
+pub returns-else-s-eq0 : goal.returns-else-s-eq0
 unfolding Reads
-returns-then-k-eq-DECIMAL c = decimal-fixed c.args.depth c.args.s.now c.requires.0 c.requires.1.0 c.requires.1.1 c.if-k-eq-DECIMAL.true c.if-s-eq0.false
+returns-else-s-eq0 c = decimal-fixed c.args.depth c.args.s.now c.requires.0 c.requires.1.0 c.requires.1.1 c.in-14.is c.if-s-eq0.false
 
 pub bounds-s-1 : goal.bounds-s-1
 unfolding Reads
-bounds-s-1 c = uuid-long c.args.depth c.args.s.now c.requires.0 c.requires.1.0 c.requires.1.1 c.if-k-eq-UUID.true
+bounds-s-1 c = uuid-long c.args.depth c.args.s.now c.requires.0 c.requires.1.0 c.requires.1.1 c.in-15.is
 
-pub returns-then-s-eq0-2 : goal.returns-then-s-eq0-2
+pub returns-in-0 : goal.returns-in-0
 unfolding Reads
-returns-then-s-eq0-2 c = uuid-bytes c.args.depth c.args.s.now c.requires.0 c.requires.1.0 c.requires.1.1 c.if-k-eq-UUID.true c.if-s-eq0-2.true
+returns-in-0 c = uuid-bytes c.args.depth c.args.s.now c.requires.0 c.requires.1.0 c.requires.1.1 c.in-15.is c.in-0.is
 
-pub bounds-s-1-then-k-eq-UUID : goal.bounds-s-1-then-k-eq-UUID
+pub returns-in-1 : goal.returns-in-1
 unfolding Reads
-bounds-s-1-then-k-eq-UUID c = uuid-long c.args.depth c.args.s.now c.requires.0 c.requires.1.0 c.requires.1.1 c.if-k-eq-UUID.true
+returns-in-1 c = uuid-string c.args.depth c.args.s.now c.requires.0 c.requires.1.0 c.requires.1.1 c.in-15.is c.in-1.is
 
-pub returns-then-s-eq1 : goal.returns-then-s-eq1
+pub returns-in-16-to-17 : goal.returns-in-16-to-17
 unfolding Reads
-returns-then-s-eq1 c = uuid-string c.args.depth c.args.s.now c.requires.0 c.requires.1.0 c.requires.1.1 c.if-k-eq-UUID.true c.if-s-eq1.true
+returns-in-16-to-17 c = int-base c.args.depth c.args.s.now c.requires.0 c.requires.1.0 c.requires.1.1 (omega arith) (omega arith)
 
-pub returns-then-k-eq-UUID : goal.returns-then-k-eq-UUID
+pub returns-in-18-to-24 : goal.returns-in-18-to-24
 unfolding Reads
-returns-then-k-eq-UUID c = uuid-fixed c.args.depth c.args.s.now c.requires.0 c.requires.1.0 c.requires.1.1 c.if-k-eq-UUID.true c.if-s-eq0-2.false c.if-s-eq1.false
+returns-in-18-to-24 c = long-base c.args.depth c.args.s.now c.requires.0 c.requires.1.0 c.requires.1.1 (omega arith) (omega arith)
 
-pub returns-then-k-lt-TIME_MICROS : goal.returns-then-k-lt-TIME_MICROS
+pub returns-in_default : goal.returns-in_default
 unfolding Reads
-returns-then-k-lt-TIME_MICROS c = int-base c.args.depth c.args.s.now c.requires.0 c.requires.1.0 c.requires.1.1 (omega arith) c.if-k-lt-TIME_MICROS.true
+returns-in_default c = duration-base c.args.depth c.args.s.now c.requires.0 c.requires.1.0 c.requires.1.1 (omega arith)
 
-pub returns-then-k-lt-DURATION : goal.returns-then-k-lt-DURATION
+pub returns-in_default-s : goal.returns-in_default-s
 unfolding Reads
-returns-then-k-lt-DURATION c = long-base c.args.depth c.args.s.now c.requires.0 c.requires.1.0 c.requires.1.1 c.if-k-lt-TIME_MICROS.false c.if-k-lt-DURATION.true
-
-pub returns : goal.returns
-unfolding Reads
-returns c = duration-base c.args.depth c.args.s.now c.requires.0 c.requires.1.0 c.requires.1.1 c.if-k-lt-DURATION.false
+returns-in_default-s c = uuid-fixed c.args.depth c.args.s.now c.requires.0 c.requires.1.0 c.requires.1.1 c.in-15.is (λ e. omega arith) (λ e. omega arith)

@@ -1,5 +1,6 @@
 -- `variants::is_tried` meets its contract.
 use mathlib.Core.Path.{sym, ap, ◌∙◌}
+use borrow.Author.Tests.{eq-eqb}
 use Rattle.text.specs.Measured.{Reads}
 use Rattle.frame.proofs.SchemaNodes.{schema-there, schema-kind}
 use Rattle.avro.specs.Union.{must_be_tried}
@@ -11,10 +12,14 @@ pub bounds-s-0 : goal.bounds-s-0
 unfolding Reads
 bounds-s-0 c = (schema-there c.args.depth c.args.s.now c.requires).1
 
-pub returns-then-k-eq-MAP : goal.returns-then-k-eq-MAP
+pub bounds-s-0-else-s-eq-MAP : goal.bounds-s-0-else-s-eq-MAP
 unfolding Reads
-returns-then-k-eq-MAP c = on-read-of _ _ c.requires.0 c.requires.1.0 c.requires.1.1 (map-tried _ c.if-k-eq-MAP.true ∙ ap must_be_tried (sym (schema-kind c.args.depth c.args.s.now c.requires.0 c.requires.1.0 c.requires.1.1)))
+bounds-s-0-else-s-eq-MAP c = (schema-there c.args.depth c.args.s.now c.requires).1
 
-pub returns : goal.returns
+pub returns-then-s-eq-MAP : goal.returns-then-s-eq-MAP
 unfolding Reads
-returns c = on-read-of _ _ c.requires.0 c.requires.1.0 c.requires.1.1 (array-tried _ c.if-k-eq-MAP.false ∙ ap must_be_tried (sym (schema-kind c.args.depth c.args.s.now c.requires.0 c.requires.1.0 c.requires.1.1)))
+returns-then-s-eq-MAP c = on-read-of _ _ c.requires.0 c.requires.1.0 c.requires.1.1 (eq-eqb _ _ c.if-s-eq-MAP.true ∙ map-tried _ c.if-s-eq-MAP.true ∙ ap must_be_tried (sym (schema-kind c.args.depth c.args.s.now c.requires.0 c.requires.1.0 c.requires.1.1)))
+
+pub returns-else-s-eq-MAP : goal.returns-else-s-eq-MAP
+unfolding Reads
+returns-else-s-eq-MAP c = on-read-of _ _ c.requires.0 c.requires.1.0 c.requires.1.1 (array-tried _ c.if-s-eq-MAP.false ∙ ap must_be_tried (sym (schema-kind c.args.depth c.args.s.now c.requires.0 c.requires.1.0 c.requires.1.1)))

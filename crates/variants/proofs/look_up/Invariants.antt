@@ -1,9 +1,7 @@
--- What the loops of `variants::look_up` keep, and why they end.
+-- What the loop of `variants::look_up` keeps.
+use Prim.Native.Nat.{◌-◌}
 use Rattle.variants.proofs.UnionTables.{Looking}
 use Rattle.variants.proofs.look_up.Given as goal
 
-abbrev pub invariant-loop-left : goal.invariant-loop-left
-invariant-loop-left l = Looking l.kind l.s l.left l.at
-
-abbrev pub decreases-loop-left : goal.decreases-loop-left
-decreases-loop-left l = l.left
+abbrev pub invariant-loop : goal.invariant-loop
+invariant-loop l = Looking l.kind l.s (l.count - l.counter) l.at

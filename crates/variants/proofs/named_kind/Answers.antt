@@ -1,29 +1,34 @@
 -- `variants::named_kind` meets its contract.
 use mathlib.Core.Path.{sym}
+use native.Mathlib.Omega.{arith}
 use Rattle.variants.specs.Ways.{wanted_of}
 use Rattle.variants.proofs.UnionKinds.{named-map, named-low, named-itself, named-fixed, named-duration, named_none}
 use Rattle.variants.proofs.named_kind.Goals as goal
 
-pub returns-then-k-eq-MAP : goal.returns-then-k-eq-MAP
+pub returns-in-9 : goal.returns-in-9
 unfolding wanted_of
-returns-then-k-eq-MAP c = sym (named-map c.args.k c.if-k-eq-MAP.true)
+returns-in-9 c = sym (named-map c.args.k c.in-9.is)
 
-pub returns-then-k-lt-RECORD : goal.returns-then-k-lt-RECORD
+pub returns-in-0-to-8 : goal.returns-in-0-to-8
 unfolding wanted_of
-returns-then-k-lt-RECORD c = sym (named-low c.args.k c.if-k-eq-MAP.false c.if-k-lt-RECORD.true)
+returns-in-0-to-8 c = sym (named-low c.args.k (λ e. omega arith) (omega arith))
 
-pub returns-then-k-lt-DECIMAL : goal.returns-then-k-lt-DECIMAL
+pub returns-in-11-to-13 : goal.returns-in-11-to-13
 unfolding wanted_of
-returns-then-k-lt-DECIMAL c = sym (named-itself c.args.k c.if-k-lt-RECORD.false c.if-k-lt-DECIMAL.true)
+returns-in-11-to-13 c = sym (named-itself c.args.k (omega arith) (omega arith))
 
-pub returns-then-k-lt-DATE : goal.returns-then-k-lt-DATE
+pub returns-in-14-to-15 : goal.returns-in-14-to-15
 unfolding wanted_of
-returns-then-k-lt-DATE c = sym (named-fixed c.args.k c.if-k-lt-DECIMAL.false c.if-k-lt-DATE.true)
+returns-in-14-to-15 c = sym (named-fixed c.args.k (omega arith) (omega arith))
 
-pub returns-then-k-eq-DURATION : goal.returns-then-k-eq-DURATION
+pub returns-in-25 : goal.returns-in-25
 unfolding wanted_of
-returns-then-k-eq-DURATION c = sym (named-duration c.args.k c.if-k-eq-DURATION.true)
+returns-in-25 c = sym (named-duration c.args.k c.in-25.is)
 
-pub returns : goal.returns
+pub returns-in_default : goal.returns-in_default
 unfolding wanted_of
-returns c = sym (named_none c.args.k c.if-k-lt-DATE.false c.if-k-eq-DURATION.false)
+returns-in_default c = sym (named_none c.args.k (omega arith) (λ e. omega arith))
+
+pub returns-in-10 : goal.returns-in-10
+unfolding wanted_of
+returns-in-10 c = sym (named-low c.args.k (λ e. omega arith) (omega arith))

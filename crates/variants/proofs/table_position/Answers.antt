@@ -16,10 +16,10 @@ pub look_up-requires : goal.look_up-requires
 unfolding Reads
 look_up-requires c = rw part_to_end (reads-some _ _ (table-reads c.args.depth c.args.s.now c.requires.0.0 (union-parts c.args.depth c.args.s.now c.requires.0.0 c.requires.0.1.0 c.requires.0.1.1 c.requires.1) _ _ c.variant_at-at.ensures c.read2-n.ensures))
 
-pub returns-in-Any : goal.returns-in-Any
+pub returns-in-None : goal.returns-in-None
 unfolding Reads found_of table_lookup wanted_of
-returns-in-Any c = on-read-of _ _ c.requires.0.0 c.requires.0.1.0 c.requires.0.1.1 (rw c.in-Any.is)
+returns-in-None c = on-read-of _ _ c.requires.0.0 c.requires.0.1.0 c.requires.0.1.1 (rw c.in-None.is)
 
-pub returns-in-Kind : goal.returns-in-Kind
+pub returns-in-Some : goal.returns-in-Some
 unfolding Reads lookup_read table_lookup wanted_of
-returns-in-Kind c = on-read-of _ _ c.requires.0.0 c.requires.0.1.0 c.requires.0.1.1 (rw part_to_end at c.look_up.ensures ∙ ap (λ x. found_of (lookup_read c.in-Kind.k x)) (table-reads c.args.depth c.args.s.now c.requires.0.0 (union-parts c.args.depth c.args.s.now c.requires.0.0 c.requires.0.1.0 c.requires.0.1.1 c.requires.1) _ _ c.variant_at-at.ensures c.read2-n.ensures) ∙ ap (λ x. found_of (table_lookup (kind_table c.requires.0.0) (wanted_of x))) (sym c.in-Kind.is))
+returns-in-Some c = on-read-of _ _ c.requires.0.0 c.requires.0.1.0 c.requires.0.1.1 (rw part_to_end at c.look_up.ensures ∙ ap (λ x. found_of (lookup_read c.in-Some.k x)) (table-reads c.args.depth c.args.s.now c.requires.0.0 (union-parts c.args.depth c.args.s.now c.requires.0.0 c.requires.0.1.0 c.requires.0.1.1 c.requires.1) _ _ c.variant_at-at.ensures c.read2-n.ensures) ∙ ap (λ x. found_of (table_lookup (kind_table c.requires.0.0) (wanted_of x))) (sym c.in-Some.is))

@@ -5,34 +5,34 @@ use Rattle.variants.specs.Ways.{wanted_of}
 use Rattle.variants.proofs.UnionKinds.{unnamed-low, unnamed-named, unnamed-decimal, unnamed-uuid, unnamed-int, unnamed-long, unnamed-duration, unnamed-past}
 use Rattle.variants.proofs.unnamed_kind.Goals as goal
 
-pub returns-then-k-lt-RECORD : goal.returns-then-k-lt-RECORD
+pub returns-in-0-to-10 : goal.returns-in-0-to-10
 unfolding wanted_of
-returns-then-k-lt-RECORD c = sym (unnamed-low c.args.k c.if-k-lt-RECORD.true)
+returns-in-0-to-10 c = sym (unnamed-low c.args.k (omega arith))
 
-pub returns-then-k-lt-DECIMAL : goal.returns-then-k-lt-DECIMAL
+pub returns-in-11-to-13 : goal.returns-in-11-to-13
 unfolding wanted_of
-returns-then-k-lt-DECIMAL c = sym (unnamed-named c.args.k c.if-k-lt-RECORD.false c.if-k-lt-DECIMAL.true)
+returns-in-11-to-13 c = sym (unnamed-named c.args.k (omega arith) (omega arith))
 
-pub returns-then-k-eq-DECIMAL : goal.returns-then-k-eq-DECIMAL
+pub returns-in-14 : goal.returns-in-14
 unfolding wanted_of
-returns-then-k-eq-DECIMAL c = sym (unnamed-decimal c.args.k c.if-k-eq-DECIMAL.true)
+returns-in-14 c = sym (unnamed-decimal c.args.k c.in-14.is)
 
-pub returns-then-k-eq-UUID : goal.returns-then-k-eq-UUID
+pub returns-in-15 : goal.returns-in-15
 unfolding wanted_of
-returns-then-k-eq-UUID c = sym (unnamed-uuid c.args.k c.if-k-eq-UUID.true)
+returns-in-15 c = sym (unnamed-uuid c.args.k c.in-15.is)
 
-pub returns-then-k-lt-TIME_MICROS : goal.returns-then-k-lt-TIME_MICROS
+pub returns-in-16-to-17 : goal.returns-in-16-to-17
 unfolding wanted_of
-returns-then-k-lt-TIME_MICROS c = sym (unnamed-int c.args.k (omega arith) c.if-k-lt-TIME_MICROS.true)
+returns-in-16-to-17 c = sym (unnamed-int c.args.k (omega arith) (omega arith))
 
-pub returns-then-k-lt-DURATION : goal.returns-then-k-lt-DURATION
+pub returns-in-18-to-24 : goal.returns-in-18-to-24
 unfolding wanted_of
-returns-then-k-lt-DURATION c = sym (unnamed-long c.args.k c.if-k-lt-TIME_MICROS.false c.if-k-lt-DURATION.true)
+returns-in-18-to-24 c = sym (unnamed-long c.args.k (omega arith) (omega arith))
 
-pub returns-then-k-eq-DURATION : goal.returns-then-k-eq-DURATION
+pub returns-in-25 : goal.returns-in-25
 unfolding wanted_of
-returns-then-k-eq-DURATION c = sym (unnamed-duration c.args.k c.if-k-eq-DURATION.true)
+returns-in-25 c = sym (unnamed-duration c.args.k c.in-25.is)
 
-pub returns : goal.returns
+pub returns-in_default : goal.returns-in_default
 unfolding wanted_of
-returns c = sym (unnamed-past c.args.k (omega arith))
+returns-in_default c = sym (unnamed-past c.args.k (omega arith))

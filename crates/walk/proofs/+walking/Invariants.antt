@@ -26,11 +26,8 @@ decreases-entry l = 8 * l.w.schema + 5
 abbrev pub decreases-fields : goal.decreases-fields
 decreases-fields l = 8 * l.w.schema + 1
 
-abbrev pub invariant-fields-loop-left : goal.invariant-fields-loop-left
-invariant-fields-loop-left l = FieldLoop l.s l.v l.w.schema l.w.value (length l.initial.out) l.out l.left l.at l.from
-
-abbrev pub decreases-fields-loop-left : goal.decreases-fields-loop-left
-decreases-fields-loop-left l = l.left
+abbrev pub invariant-fields-loop-i : goal.invariant-fields-loop-i
+invariant-fields-loop-i l = FieldLoop l.s l.v l.w.schema l.w.value (length l.initial.out) l.out (l.count - l.i) l.at l.from
 
 abbrev pub decreases-indexed : goal.decreases-indexed
 decreases-indexed l = 8 * l.w.schema + 5
@@ -44,20 +41,14 @@ decreases-one_field l = 8 * l.w.schema + 6
 abbrev pub decreases-resolve_array : goal.decreases-resolve_array
 decreases-resolve_array l = 8 * l.w.schema + 3
 
-abbrev pub invariant-resolve_array-loop-left : goal.invariant-resolve_array-loop-left
-invariant-resolve_array-loop-left l = Loop (read_value (l.w.value - 1)) (on_both peeled_bytes (read_schema l.w.schema l.s) (read_value l.w.value l.v)) (on_first node_bytes (read_schema (l.w.schema - 1) (drop 1 l.s))) l.v (length l.initial.out) l.out l.left l.at l.from
-
-abbrev pub decreases-resolve_array-loop-left : goal.decreases-resolve_array-loop-left
-decreases-resolve_array-loop-left l = l.left
+abbrev pub invariant-resolve_array-loop : goal.invariant-resolve_array-loop
+invariant-resolve_array-loop l = Loop (read_value (l.w.value - 1)) (on_both peeled_bytes (read_schema l.w.schema l.s) (read_value l.w.value l.v)) (on_first node_bytes (read_schema (l.w.schema - 1) (drop 1 l.s))) l.v (length l.initial.out) l.out (l.end - l.counter) l.at l.from
 
 abbrev pub decreases-resolve_map : goal.decreases-resolve_map
 decreases-resolve_map l = 8 * l.w.schema + 3
 
-abbrev pub invariant-resolve_map-loop-left : goal.invariant-resolve_map-loop-left
-invariant-resolve_map-loop-left l = Loop (read_entry (read_value (l.w.value - 1))) (on_both peeled_bytes (read_schema l.w.schema l.s) (read_value l.w.value l.v)) (on_first entry_bytes (read_schema (l.w.schema - 1) (drop 1 l.s))) l.v (length l.initial.out) l.out l.left l.at l.from
-
-abbrev pub decreases-resolve_map-loop-left : goal.decreases-resolve_map-loop-left
-decreases-resolve_map-loop-left l = l.left
+abbrev pub invariant-resolve_map-loop : goal.invariant-resolve_map-loop
+invariant-resolve_map-loop l = Loop (read_entry (read_value (l.w.value - 1))) (on_both peeled_bytes (read_schema l.w.schema l.s) (read_value l.w.value l.v)) (on_first entry_bytes (read_schema (l.w.schema - 1) (drop 1 l.s))) l.v (length l.initial.out) l.out (l.end - l.counter) l.at l.from
 
 abbrev pub decreases-resolve_node : goal.decreases-resolve_node
 decreases-resolve_node l = 8 * l.w.schema + 4
@@ -68,11 +59,11 @@ decreases-resolve_record l = 8 * l.w.schema + 3
 abbrev pub decreases-resolve_union : goal.decreases-resolve_union
 decreases-resolve_union l = 8 * l.w.schema + 3
 
-abbrev pub invariant-resolve_union-loop-n : goal.invariant-resolve_union-loop-n
-invariant-resolve_union-loop-n l = (length l.out ≡ length l.initial.out) × Turning l.w l.s l.v l.way l.turn l.position l.at
+abbrev pub invariant-resolve_union-loop-answer : goal.invariant-resolve_union-loop-answer
+invariant-resolve_union-loop-answer l = (length l.out ≡ length l.initial.out) × Turning l.w l.s l.v l.way l.turn l.spot.position l.spot.at
 
-abbrev pub decreases-resolve_union-loop-n : goal.decreases-resolve_union-loop-n
-decreases-resolve_union-loop-n l = turns_left (number_at l.s 1 2) l.way l.turn
+abbrev pub decreases-resolve_union-loop-answer : goal.decreases-resolve_union-loop-answer
+decreases-resolve_union-loop-answer l = turns_left (number_at l.s 1 2) l.way l.turn
 
 abbrev pub decreases-take_turn : goal.decreases-take_turn
 decreases-take_turn l = 8 * l.w.schema + 2

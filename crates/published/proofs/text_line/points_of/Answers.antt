@@ -6,5 +6,5 @@ use Rattle.published.proofs.text_line.points_of.Goals as goal
 
 pub latin1-requires : goal.latin1-requires
 latin1-requires g c =
-    let k = count_of _ _ (sym c.latin1_len.ensures ∙ c.in-Of.is) in
+    let k = count_of _ _ (sym c.latin1_len.ensures ∙ c.in-Some.is) in
     (c.requires, k.0, omega (arith, k.1, c.if-n-gt64.false))

@@ -3,11 +3,9 @@ use mathlib.Core.Path.{sym, ap, ◌∙◌, subst}
 use mathlib.Core.Bool.{Bool, not}
 use native.Mathlib.Nat.{lt_of_lt_of_le}
 use lib.Dec.{T, lit≤}
-use mir.Syntax.{w32, w64}
 use lib.Ieee.{binary32, binary64, to_bits, fits}
 use lib.Ieee.Bits.{to_bits-lt}
 use Rattle.scalar.specs.Scalars.{content_of}
-use Rattle.rounding.proofs.Negatives.{signed-content}
 use Rattle.scalar.proofs.Scalars.{equals_itself, is-nan}
 use Rattle.std.proofs.Common.{rules}
 use Rattle.scalar.proofs.Scalar.content.Goals as goal

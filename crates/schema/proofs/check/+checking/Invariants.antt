@@ -1,5 +1,5 @@
 -- What the loops of this cycle of calls keep, and why loops and calls end.
-use Prim.Native.Nat.{◌+◌, ◌*◌}
+use Prim.Native.Nat.{◌+◌, ◌-◌, ◌*◌}
 use Rattle.frame.specs.Readers.{read_list}
 use Rattle.frame.specs.SchemaFrame.{read_field, read_schema}
 use Rattle.frame.proofs.Counting.{Going}
@@ -15,11 +15,8 @@ decreases-field_check l = 8 * l.depth + 3
 abbrev pub decreases-fields_check : goal.decreases-fields_check
 decreases-fields_check l = 8 * l.depth + 4
 
-abbrev pub invariant-fields_check-loop-left : goal.invariant-fields_check-loop-left
-invariant-fields_check-loop-left l = Going (read_list (read_field (read_schema l.depth)) l.s) (read_field (read_schema l.depth)) each_sound l.s l.at l.left l.ok each_sound
-
-abbrev pub decreases-fields_check-loop-left : goal.decreases-fields_check-loop-left
-decreases-fields_check-loop-left l = l.left
+abbrev pub invariant-fields_check-loop : goal.invariant-fields_check-loop
+invariant-fields_check-loop l = Going (read_list (read_field (read_schema l.depth)) l.s) (read_field (read_schema l.depth)) each_sound l.s l.at (l.count - l.counter) l.sound each_sound
 
 abbrev pub decreases-record_check : goal.decreases-record_check
 decreases-record_check l = 8 * l.depth + 5
@@ -33,8 +30,5 @@ decreases-union_check l = 8 * l.depth + 5
 abbrev pub decreases-variants_check : goal.decreases-variants_check
 decreases-variants_check l = 8 * l.depth + 3
 
-abbrev pub invariant-variants_check-loop-left : goal.invariant-variants_check-loop-left
-invariant-variants_check-loop-left l = Going (read_list (read_schema l.depth) l.s) (read_schema l.depth) no_unions l.s l.at l.left l.ok no_unions
-
-abbrev pub decreases-variants_check-loop-left : goal.decreases-variants_check-loop-left
-decreases-variants_check-loop-left l = l.left
+abbrev pub invariant-variants_check-loop : goal.invariant-variants_check-loop
+invariant-variants_check-loop l = Going (read_list (read_schema l.depth) l.s) (read_schema l.depth) no_unions l.s l.at (l.count - l.counter) l.sound no_unions

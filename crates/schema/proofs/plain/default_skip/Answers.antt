@@ -25,5 +25,5 @@ value_len-requires c = rw part_to_end (option-thing _ _ c.requires c.if-s-eq0.fa
 pub overflow_add-result : goal.overflow_add-result
 overflow_add-result c = omega (arith, spans-le _ _ _ (rw part_to_end at c.value_len.ensures), length-drop 1 c.args.s.now, c.well_formed, option-long _ _ c.requires)
 
-pub returns : goal.returns
-returns c = option-some-spans _ _ c.requires c.if-s-eq0.false _ (rw part_to_end at c.value_len.ensures)
+pub returns-else-s-eq0 : goal.returns-else-s-eq0
+returns-else-s-eq0 c = option-some-spans _ _ c.requires c.if-s-eq0.false _ (rw part_to_end at c.value_len.ensures)

@@ -22,10 +22,10 @@ slice_bounds-content-count c = option-long _ _ c.requires
 pub slice_bounds-content-start : goal.slice_bounds-content-start
 slice_bounds-content-start c = option-long _ _ c.requires
 
-pub content-default-requires : goal.content-default-requires
-content-default-requires c = rw part_to_end (reads-text _ (option-thing _ _ c.requires c.if-s-eq0.false))
+pub content-requires : goal.content-requires
+content-requires c = rw part_to_end (reads-text _ (option-thing _ _ c.requires c.if-s-eq0.false))
 
-pub returns : goal.returns
-returns c =
+pub returns-else-s-eq0 : goal.returns-else-s-eq0
+returns-else-s-eq0 c =
     subst (Spans (read_option read_text c.args.s.now) c.args.s.now) (omega arith)
-    (option-some-spans read_text c.args.s.now c.requires c.if-s-eq0.false _ (text-held _ _ (option-thing read_text c.args.s.now c.requires c.if-s-eq0.false) (rw part_to_end at c.content-default.ensures.0) (rw part_to_end at c.content-default.ensures.1.0)))
+    (option-some-spans read_text c.args.s.now c.requires c.if-s-eq0.false _ (text-held _ _ (option-thing read_text c.args.s.now c.requires c.if-s-eq0.false) (rw part_to_end at c.content.ensures.0) (rw part_to_end at c.content.ensures.1.0)))

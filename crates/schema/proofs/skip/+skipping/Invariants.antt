@@ -1,5 +1,5 @@
 -- What the loops of this cycle of calls keep, and why loops and calls end.
-use Prim.Native.Nat.{◌+◌, ◌*◌}
+use Prim.Native.Nat.{◌+◌, ◌-◌, ◌*◌}
 use Rattle.frame.specs.SchemaFrame.{read_field, read_schema}
 use Rattle.frame.proofs.Counting.{Walking}
 use Rattle.schema.proofs.skip.+skipping.Given as goal
@@ -13,11 +13,8 @@ decreases-field_len l = 8 * l.depth + 3
 abbrev pub decreases-fields_skip : goal.decreases-fields_skip
 decreases-fields_skip l = 8 * l.depth + 5
 
-abbrev pub invariant-fields_skip-loop-left : goal.invariant-fields_skip-loop-left
-invariant-fields_skip-loop-left l = Walking (read_field (read_schema l.depth)) l.s l.at l.left
-
-abbrev pub decreases-fields_skip-loop-left : goal.decreases-fields_skip-loop-left
-decreases-fields_skip-loop-left l = l.left
+abbrev pub invariant-fields_skip-loop : goal.invariant-fields_skip-loop
+invariant-fields_skip-loop l = Walking (read_field (read_schema l.depth)) l.s l.at (l.count - l.counter)
 
 abbrev pub decreases-schema_len : goal.decreases-schema_len
 decreases-schema_len l = 8 * l.depth
@@ -28,8 +25,5 @@ decreases-union_skip l = 8 * l.depth + 5
 abbrev pub decreases-variants_skip : goal.decreases-variants_skip
 decreases-variants_skip l = 8 * l.depth + 3
 
-abbrev pub invariant-variants_skip-loop-left : goal.invariant-variants_skip-loop-left
-invariant-variants_skip-loop-left l = Walking (read_schema l.depth) l.s l.at l.left
-
-abbrev pub decreases-variants_skip-loop-left : goal.decreases-variants_skip-loop-left
-decreases-variants_skip-loop-left l = l.left
+abbrev pub invariant-variants_skip-loop : goal.invariant-variants_skip-loop
+invariant-variants_skip-loop l = Walking (read_schema l.depth) l.s l.at (l.count - l.counter)

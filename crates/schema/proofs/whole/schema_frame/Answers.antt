@@ -15,22 +15,20 @@ returns-then-s-gt65535 c = verdict-long (read_schema 16) schema_sound c.args.s.n
 
 pub returns-in_default : goal.returns-in_default
 unfolding schema_verdict decode_schema
-returns-in_default c =
-    verdict-broken (read_schema 16) schema_sound c.args.s.now c.if-s-gt65535.false (rw c.in_default.is at c.schema_check.ensures)
+returns-in_default c = verdict-broken (read_schema 16) schema_sound c.args.s.now c.if-s-gt65535.false c.in_default.ensures
 
-pub returns-then-n-s : goal.returns-then-n-s
+pub returns-then-node-s : goal.returns-then-node-s
 unfolding schema_verdict decode_schema
-returns-then-n-s c =
-    verdict-over (read_schema 16) schema_sound c.args.s.now _ _ c.if-s-gt65535.false (rw c.in-Of.is at c.schema_check.ensures) c.if-n-s.true
+returns-then-node-s c = verdict-over (read_schema 16) schema_sound c.args.s.now _ _ c.if-s-gt65535.false c.in-Some.ensures c.if-node-s.true
 
-pub returns-then-sound : goal.returns-then-sound
+pub returns-then-node : goal.returns-then-node
 unfolding schema_verdict decode_schema
-returns-then-sound c =
-    ap (λ (b : Bool). when b then Sound else Unsound) (sym c.if-sound.true)
-    ∙ verdict-whole (read_schema 16) schema_sound c.args.s.now _ _ c.if-s-gt65535.false (rw c.in-Of.is at c.schema_check.ensures) c.if-n-s.false
+returns-then-node c =
+    ap (λ (b : Bool). when b then Sound else Unsound) (sym c.if-node.true)
+    ∙ verdict-whole (read_schema 16) schema_sound c.args.s.now _ _ c.if-s-gt65535.false c.in-Some.ensures c.if-node-s.false
 
-pub returns : goal.returns
+pub returns-else-node : goal.returns-else-node
 unfolding schema_verdict decode_schema
-returns c =
-    ap (λ (b : Bool). when b then Sound else Unsound) (sym c.if-sound.false)
-    ∙ verdict-whole (read_schema 16) schema_sound c.args.s.now _ _ c.if-s-gt65535.false (rw c.in-Of.is at c.schema_check.ensures) c.if-n-s.false
+returns-else-node c =
+    ap (λ (b : Bool). when b then Sound else Unsound) (sym c.if-node.false)
+    ∙ verdict-whole (read_schema 16) schema_sound c.args.s.now _ _ c.if-s-gt65535.false c.in-Some.ensures c.if-node-s.false

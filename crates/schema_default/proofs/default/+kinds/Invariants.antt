@@ -1,5 +1,5 @@
 -- What the loops of this cycle of calls keep, and why loops and calls end.
-use Prim.Native.Nat.{◌+◌, ◌*◌}
+use Prim.Native.Nat.{◌+◌, ◌-◌, ◌*◌}
 use Rattle.frame.specs.Readers.{read_list}
 use Rattle.frame.specs.ValueFrame.{items_of, entries_of, read_entry, read_value}
 use Rattle.frame.specs.Sound.{default_items, default_entries}
@@ -13,17 +13,11 @@ decreases-default_kinds l = 4 * l.depth
 abbrev pub decreases-entries_kinds : goal.decreases-entries_kinds
 decreases-entries_kinds l = 4 * l.depth + 1
 
-abbrev pub invariant-entries_kinds-loop-left : goal.invariant-entries_kinds-loop-left
-invariant-entries_kinds-loop-left l = Left (read_list (read_entry (read_value l.depth)) l.s) (read_entry (read_value l.depth)) (λ es. default_entries (entries_of es)) (entries_kinds l.ok) l.s l.at l.left
-
-abbrev pub decreases-entries_kinds-loop-left : goal.decreases-entries_kinds-loop-left
-decreases-entries_kinds-loop-left l = l.left
+abbrev pub invariant-entries_kinds-loop : goal.invariant-entries_kinds-loop
+invariant-entries_kinds-loop l = Left (read_list (read_entry (read_value l.depth)) l.s) (read_entry (read_value l.depth)) (λ es. default_entries (entries_of es)) (entries_kinds l.ok) l.s l.at (l.count - l.counter)
 
 abbrev pub decreases-items_kinds : goal.decreases-items_kinds
 decreases-items_kinds l = 4 * l.depth + 1
 
-abbrev pub invariant-items_kinds-loop-left : goal.invariant-items_kinds-loop-left
-invariant-items_kinds-loop-left l = Left (read_list (read_value l.depth) l.s) (read_value l.depth) (λ vs. default_items (items_of vs)) (items_kinds l.ok) l.s l.at l.left
-
-abbrev pub decreases-items_kinds-loop-left : goal.decreases-items_kinds-loop-left
-decreases-items_kinds-loop-left l = l.left
+abbrev pub invariant-items_kinds-loop : goal.invariant-items_kinds-loop
+invariant-items_kinds-loop l = Left (read_list (read_value l.depth) l.s) (read_value l.depth) (λ vs. default_items (items_of vs)) (items_kinds l.ok) l.s l.at (l.count - l.counter)

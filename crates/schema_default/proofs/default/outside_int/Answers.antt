@@ -1,13 +1,17 @@
 -- `schema_default::default::outside_int` meets its contract. Assumes nothing.
-use borrow.Author.Tests.{lt-ltb, le-ltb}
+use Prim.Native.Nat.{ℕ}
+use mathlib.Core.Path.{◌≡◌, ◌∙◌}
+use mathlib.Core.Bool.{◌&&◌, ◌||◌, not}
+use native.Mathlib.Omega.{arith}
+use lib.Dec.{leb, ltb}
+use Rattle.std.specs.Ordering.{is_le, is_lt, nat_cmp}
+use Rattle.std.proofs.lemmas.Bool.Decides.{nat_tests}
 use Rattle.scalar.specs.Conversion.{in_int}
-use Rattle.schema_default.proofs.Defaults.{below-not}
 use Rattle.schema_default.proofs.default.outside_int.Goals as goal
 
-pub returns-then-n-lt2147483648 : goal.returns-then-n-lt2147483648
-unfolding in_int
-returns-then-n-lt2147483648 c = rw (lt-ltb _ _ c.if-n-lt2147483648.true)
+outside : (low high n : ℕ) → is_le (nat_cmp low n) && is_lt (nat_cmp n high) ≡ not (ltb n low || leb high n)
+outside low high n = grind (arith, nat_tests)
 
 pub returns : goal.returns
 unfolding in_int
-returns c = rw (le-ltb _ _ c.if-n-lt2147483648.false) (below-not c.args.n 18446744071562067968)
+returns c = c.contains.ensures.value ∙ outside 2147483648 18446744071562067968 c.args.n

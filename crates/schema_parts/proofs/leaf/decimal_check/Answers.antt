@@ -9,11 +9,11 @@ use Rattle.schema_parts.proofs.leaf.decimal_check.Goals as goal
 pub returns-then-s-lt8 : goal.returns-then-s-lt8
 returns-then-s-lt8 c = λ form node. checks-none _ _ _ (decimal-none form node _ c.if-s-lt8.true)
 
-pub returns-in_default : goal.returns-in_default
-returns-in_default c = λ form node. checks-none _ _ _ (decimal-later form node _ c.if-s-lt8.false (measured-broken _ _ (rw (c.in_default.is, part_to_end) at c.option_size_len.ensures)))
+pub returns-in_err-m : goal.returns-in_err-m
+returns-in_err-m c = rw c.from_residual.ensures (λ form node. checks-none _ _ _ (decimal-later form node _ c.if-s-lt8.false (measured-broken _ _ (rw part_to_end at c.in_err-m.ensures))))
 
 pub overflow_add-result : goal.overflow_add-result
-overflow_add-result c = let h = long _ _ _ (rw (c.in-Of.is, part_to_end) at c.option_size_len.ensures) in omega (arith, h.inside, length-drop 8 c.args.s.now, c.well_formed)
+overflow_add-result c = let h = long _ _ _ (rw part_to_end at c.in_ok-m.ensures) in omega (arith, h.inside, length-drop 8 c.args.s.now, c.well_formed)
 
 pub returns : goal.returns
-returns c = λ form node. decimal-checks form node _ c.if-s-lt8.false _ (rw (c.in-Of.is, part_to_end) at c.option_size_len.ensures)
+returns c = λ form node. decimal-checks form node _ c.if-s-lt8.false _ (rw part_to_end at c.in_ok-m.ensures)

@@ -11,4 +11,4 @@ returns-then-s-lt2 c = λ form node. checks-none _ _ _ (duration-none form node 
 
 pub returns : goal.returns
 unfolding schema_sound
-returns c = λ form node. checks-some _ _ _ _ _ c.if-s-lt2.false _ (duration-got form node _ c.if-s-lt2.false) (ap (λ n. eqb n 12) c.read2-size.ensures)
+returns c = λ form node. checks-some _ _ _ _ _ c.if-s-lt2.false _ (duration-got form node _ c.if-s-lt2.false) (ap (λ n. eqb n 12) c.read2.ensures)

@@ -12,6 +12,6 @@ pub returns-then-error-eq-EAGAIN : goal.returns-then-error-eq-EAGAIN
 unfolding unmoved
 returns-then-error-eq-EAGAIN c = rw (bits-other 4 _ c.ranges.error refl c.if-error-eq-EINTR.false, bits-same 11 _ c.ranges.error refl c.if-error-eq-EAGAIN.true) refl
 
-pub returns : goal.returns
+pub returns-else-error-eq-EAGAIN : goal.returns-else-error-eq-EAGAIN
 unfolding unmoved
-returns c = rw (bits-other 4 _ c.ranges.error refl c.if-error-eq-EINTR.false, bits-other 11 _ c.ranges.error refl c.if-error-eq-EAGAIN.false) refl
+returns-else-error-eq-EAGAIN c = rw (bits-other 4 _ c.ranges.error refl c.if-error-eq-EINTR.false, bits-other 11 _ c.ranges.error refl c.if-error-eq-EAGAIN.false) refl

@@ -10,9 +10,6 @@ use Rattle.streams.proofs.input.refilled.Goals as goal
 pub returns-then-r-clause-refilled : goal.returns-then-r-clause-refilled
 returns-then-r-clause-refilled g c = unread
 
-pub returns-then-r-2-clause-refilled : goal.returns-then-r-2-clause-refilled
-returns-then-r-2-clause-refilled g c = unread
-
 pub returns-clause-at_le_end : goal.returns-clause-at_le_end
 returns-clause-at_le_end g c =
     subst

@@ -1,33 +1,15 @@
 -- `utf8::ascii::words` meets its contract: the loop keeps what is passed over. Assumes nothing.
 use native.Mathlib.Omega.{arith}
 use mathlib.Core.Path.{sym, ◌∙◌}
-use Prim.Native.Nat.{◌+◌, ◌-◌}
+use Prim.Native.Nat.{◌+◌}
 use Rattle.utf8.proofs.AsciiLaws.{none_passed, part-passed, passed_on}
 use Rattle.utf8.proofs.ascii.words.Goals as goal
 
 pub loop-i-init : goal.loop-i-init
 loop-i-init c = none_passed c.args.s.now c.args.from c.requires
 
-pub overflow_sub-s : goal.overflow_sub-s
-overflow_sub-s c = omega arith
-
-pub eight-requires : goal.eight-requires
-eight-requires c = omega arith
-
-pub returns-then-not-eight : goal.returns-then-not-eight
-returns-then-not-eight c = c.loop-i.invariant
-
-pub overflow_add-i : goal.overflow_add-i
-overflow_add-i c = omega arith
-
-pub loop-i-smaller : goal.loop-i-smaller
-loop-i-smaller c = omega arith
-
 pub loop-i-preserved : goal.loop-i-preserved
 loop-i-preserved c = passed_on c.args.s.now c.args.from c.loop-i.i (c.loop-i.i + 8) c.loop-i.invariant (part-passed c.args.s.now c.loop-i.i 8 (omega arith) (sym c.eight.ensures ∙ c.if-not-eight.false))
-
-pub last-requires : goal.last-requires
-last-requires c = (omega arith, omega arith)
 
 pub returns : goal.returns
 returns c = passed_on c.args.s.now c.args.from c.loop-i.i c.last.result c.loop-i.invariant c.last.ensures
