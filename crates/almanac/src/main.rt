@@ -10,13 +10,12 @@
 // The bytes of a line stand together, and numbers are high byte first.
 #![tactic(auto)]
 
-ghost use Rattle.std.specs.Prelude.{◌*◌, ◌≤◌, length};
+ghost use Rattle.std.specs.Prelude.{◌≤◌, length, IfSome};
 
 use calendar::Civil;
-use lines::input::Reader;
+use streams::CanWrite;
 use streams::output::Output;
 use streams::tally::Tally;
-use streams::{CanRead, CanWrite};
 
 // A line that is no call is answered with the number 0, which no refusal has.
 const NO_CALL: u8 = 0;
@@ -69,44 +68,29 @@ fn signed(code: i32) -> Result<usize, u8> {
     Err(NO_CALL)
 }
 
-// Where the frame ends whose length stands before it; 0 where there is none.
-fn frame_end(s: &[u8]) -> usize
-    ensures { result ≤ length s.now }
+// Where the frame ends whose length stands before it.
+fn frame_end(s: &[u8]) -> Option<usize>
+    ensures { IfSome result (λ e. (1 ≤ e) × (e ≤ length s.now)) }
 {
-    if s.len() < 1 {
-        return 0;
-    }
-    let e = (s[0] as usize) + 1;
-    if s.len() < e {
-        return 0;
-    }
-    e
+    let e = usize::from(*s.first()?) + 1;
+    if s.len() < e { None } else { Some(e) }
 }
 
 fn add(s: &[u8], out: &mut [u8]) -> Result<usize, u8> {
-    let e = frame_end(s);
-    if e < 1 {
-        return Err(NO_CALL);
-    }
+    let e = frame_end(s).ok_or(NO_CALL)?;
     signed(instants::add(&s[1..e], &s[e..], out))
 }
 
 // Whether the window that opens with a frame holds an instant: the closing, with its length before it, and the instant are in s.
 fn holds_from(opening: &[u8], s: &[u8]) -> Result<usize, u8> {
-    let e = frame_end(s);
-    if e < 1 {
-        return Err(NO_CALL);
-    }
+    let e = frame_end(s).ok_or(NO_CALL)?;
     signed(instants::holds(opening, &s[1..e], &s[e..]))
 }
 
 fn holds(s: &[u8], out: &mut [u8]) -> Result<usize, u8>
     requires { 12 ≤ length out.old }
 {
-    let e = frame_end(s);
-    if e < 1 {
-        return Err(NO_CALL);
-    }
+    let e = frame_end(s).ok_or(NO_CALL)?;
     let n = holds_from(&s[1..e], &s[e..])?;
     out[0] = (n % 256) as u8;
     Ok(1)
@@ -127,62 +111,13 @@ fn called(letter: u8, s: &[u8], out: &mut [u8]) -> Result<usize, u8>
 
 // ---- lines
 
-// How an answer stands in a line goes to the front of out; its length.
-
-// The digits of the first n bytes; nothing where there are fewer.
-fn digits(bytes: &[u8], n: usize, out: &mut [u8]) -> usize
-    requires { 2 * length bytes.now ≤ length out.old }
-    ensures { result ≤ length out.old }
-{
-    if bytes.len() < n {
-        return 0;
-    }
-    hex_text::to_hex(&bytes[..n], out);
-    2 * n
-}
-
-// A refusal's number; nothing for one past 99.
-fn refused(number: u8, out: &mut [u8]) -> usize
-    requires { 3 ≤ length out.old }
-    ensures { result ≤ length out.old }
-{
-    if 100 <= number {
-        return 0;
-    }
-    let n = hex_text::decimal_to(number, &mut out[1..]);
-    out[0] = b'-';
-    n + 1
-}
-
-fn told(r: Result<usize, u8>, bytes: &[u8], out: &mut [u8]) -> usize
-    requires { (2 * length bytes.now ≤ length out.old) × (3 ≤ length out.old) }
-    ensures { result ≤ length out.old }
-{
-    match r {
-        Ok(n) => digits(bytes, n, out),
-        Err(e) => refused(e, out),
-    }
-}
-
 // Whether a call has the answer that a line expects.
 fn is_expected(letter: u8, s: &[u8], expected: &[u8]) -> bool {
     let mut bytes = [0u8; 12];
     let mut text = [0u8; 24];
     let r = called(letter, s, &mut bytes);
-    let n = told(r, &bytes, &mut text);
+    let n = lines::list::told(r, &bytes, &mut text);
     text::same(&text[..n], expected)
-}
-
-// The place of the first space from the third character on; past the line where there is none.
-fn space(line: &[u8]) -> usize
-    ensures { (2 ≤ result) × (2 ≤ length line.now → result ≤ length line.now) }
-{
-    for i in 2..line.len() {
-        if line[i] == b' ' {
-            return i;
-        }
-    }
-    line.len().max(2)
 }
 
 // A line: two characters stand before the call's bytes, and a space behind them.
@@ -197,35 +132,13 @@ fn counted(t: Tally, line: &[u8], room: &mut [u8], out: &mut Output<'_, impl Can
     if n < 2 {
         return t.compared(false, out);
     }
-    let e = space(line);
-    if n <= e {
+    let rest = &line[2..];
+    let Some(e) = lines::list::space(rest) else {
         return t.compared(false, out);
-    }
-    let k = lines::frame(&line[2..e], room);
+    };
+    let k = lines::frame(&rest[..e], room);
     let after = e + 1;
-    t.compared(is_expected(line[0], &room[..k], &line[after..]), out)
-}
-
-// The list, up to its end or the first write that fails.
-// A proved loop has to end, and nothing says that the input does. So there are as many turns as no run uses up.
-fn all<R: CanRead + CanWrite>(
-    rt: &R,
-    block: &mut [u8],
-    line: &mut [u8],
-    room: &mut [u8],
-    out: &mut Output<'_, R>,
-) -> Tally {
-    let mut r = Reader::start();
-    let mut t = Tally::start();
-    for _ in 0..u64::MAX {
-        r = streams::input::next(rt, r, block, line);
-        if !r.whole || !out.ok {
-            return t;
-        }
-        let n = r.filled;
-        t = counted(t, &line[0..n], room, out);
-    }
-    t
+    t.compared(is_expected(line[0], &room[..k], &rest[after..]), out)
 }
 
 fn main(rt: HostRuntime) {
@@ -240,6 +153,9 @@ fn main(rt: HostRuntime) {
     let mut line = [0u8; 4096];
     let mut room = [0u8; 2048];
     let mut out = Output::new(&rt);
-    let t = all(&rt, &mut block, &mut line, &mut room, &mut out);
+    let mut t = Tally::start();
+    streams::input::each_line(&rt, &mut block, &mut line, &mut out, |line, out| {
+        t = counted(t, line, &mut room, out);
+    });
     t.report(b" answers", &mut out);
 }

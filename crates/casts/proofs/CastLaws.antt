@@ -1,7 +1,7 @@
 -- A node that holds a number or a time, read as a scalar; and the conversions of scalars as the resolve_ functions that they serve.
-use Prim.Native.Nat.{ℕ, suc, ◌+◌, ◌%◌, ◌^◌, ◌≤◌, ◌<◌}
+use Prim.Native.Nat.{ℕ, ◌+◌, ◌%◌, ◌^◌, ◌≤◌, ◌<◌}
 use mathlib.Core.Path.{◌≡◌, refl, sym, ap, ◌∙◌, subst}
-use mathlib.Core.List.{List, ◌∷◌, ◌++◌, append-nil}
+use mathlib.Core.List.{List, ◌∷◌}
 use mathlib.Core.Option.{none, some}
 use mathlib.Core.Bool.{Bool, true, false, ◌||◌, true≢false}
 use native.Mathlib.Nat.{mod-eq_of_lt}
@@ -10,13 +10,12 @@ use borrow.Author.Tests.{eq-eqb, ne_eqb, lt-ltb, le-ltb, le-leb, eqb-true, eqb-f
 use lib.Dec.{T, eqb, ltb}
 use lib.IntN.{ℤ}
 use lib.ListN.{length, get_or, drop}
-use lib.Seq.{drop-length}
 use Rattle.std.specs.Prelude as std
 use Rattle.std.specs.Prelude.{Ok, Err}
 use Rattle.base.specs.Base.{when◌then◌else◌, ok, stop}
 use Rattle.base.specs.declared.refusal.Refusal.{Refusal}
-use Rattle.number.specs.Number.{all_bytes, number_at, bytes_of, written}
-use Rattle.number.proofs.Laws.{number_at-<, length-bytes_of, bytes_of_mod}
+use Rattle.number.specs.Number.{all_bytes, number_at, bytes_of}
+use Rattle.number.proofs.Laws.{number_at-<, bytes_of_mod}
 use Rattle.text.specs.Read.{Read}
 use Rattle.text.specs.Measured.{Reads}
 use Rattle.rounding.specs.Rounding.{of_twos, to_twos}
@@ -72,13 +71,6 @@ kind-content (LocalTimestampMicros z) = refl
 kind-content (LocalTimestampNanos z) = refl
 
 -- ---- a scalar's node
-
--- a kind and the w bytes of a number, put into an array of as many behind the kind
-pub node-written : (k w n : ℕ) (z : List ℕ) → length z ≡ w → written (k ∷ z) 1 (bytes_of w n) ≡ k ∷ bytes_of w n
-unfolding written
-node-written k w n z h =
-    let i : 1 + length (bytes_of w n) ≡ suc (length z) = omega (arith, length-bytes_of w n) in
-    ap (λ (x : List ℕ). k ∷ (bytes_of w n ++ x)) (ap (λ (m : ℕ). drop m (k ∷ z)) i ∙ drop-length z) ∙ ap (λ (x : List ℕ). k ∷ x) (append-nil (bytes_of w n))
 
 module _ (s : Scalar) (k n : ℕ) (e : k ≡ Scalars.kind_of s) (f : n ≡ content_of s) where
   node-is : encode_value (value_of s) ≡ k ∷ bytes_of (width_of k) n

@@ -10,6 +10,7 @@ use lib.Dec.{T}
 use lib.ListN.{get_or, drop}
 use Rattle.std.specs.Prelude as std
 use Rattle.std.specs.Prelude.{Some, None, Ok, Err}
+use Rattle.std.specs.Option.{ok_or}
 use Rattle.base.specs.Base.{when◌then◌else◌, ok, stop}
 use Rattle.base.specs.declared.refusal.Refusal.{Refusal}
 use Rattle.base.specs.declared.refusal.Refusal.TheVariants.{Unsuited, NotANumber}
@@ -25,7 +26,7 @@ use Rattle.buffer.specs.Built.{Built, Wrote}
 use Rattle.types.specs.Types.{Outcome, float_of_bits, double_of_bits, special, resolve_float, resolve_double}
 use Rattle.types.specs.Contract.{encoded, on_read}
 use Rattle.types.proofs.Contents.{int-content, long-content, float-content, double-content, string-content}
-use Rattle.types.proofs.NodeLaws.{encode-wide, wrote-ok, wrote-stop, wrote-refusal, wide-answered, kind-refused, text-answered}
+use Rattle.types.proofs.NodeLaws.{encode-wide, wrote-ok, wrote-stop, wrote-refusal, wide-answered, kind-refused, text-answered, text-reads-counted}
 use Rattle.types.proofs.ScalarLaws.{float-refused, double-refused}
 
 -- f gives what `make` does of the bits that a conversion of each kind of number has
@@ -44,6 +45,14 @@ to-float = record { of-int = λ n. refl; of-long = λ n. refl; of-float = λ n. 
 pub to-double : Floating resolve_double (λ b. double_of_bits b) double_of_int double_of_long double_of_float (λ b. b)
 unfolding resolve_double kind_of number octets
 to-double = record { of-int = λ n. refl; of-long = λ n. refl; of-float = λ n. refl; of-double = λ n. refl; of-text = λ t. refl; of_other = double-refused }
+
+ok-some : (y : std.Option ℕ) (b : ℕ) → ok_or y Unsuited ≡ Ok b → y ≡ Some b
+ok-some None b e = let z : ◌≡◌ {A = ℕ} 0 1 = cc in absurd (omega arith)
+ok-some (Some c) b e = let k : c ≡ b = cc in ap Some k
+
+err-none : (y : std.Option ℕ) (r : Refusal) → ok_or y Unsuited ≡ Err r → (y ≡ None) × (r ≡ Unsuited)
+err-none None r e = let k : r ≡ Unsuited = cc in (refl, k)
+err-none (Some c) r e = let z : ◌≡◌ {A = ℕ} 0 1 = cc in absurd (omega arith)
 
 -- ---- a float of kind j by its bits b, where n says whether they are a NaN's
 
@@ -78,7 +87,7 @@ module _ {f : Value → Outcome} {make : ℕ → Outcome} {of_int ofLong ofFloat
     double-way = number-way 5 8 ofDouble double-content F.of-double
 
     -- a text, in the part x behind the kind
-    pub text-way : get_or s 0 0 ≡ 7 → (x : List ℕ) → x ≡ drop 1 s → (o : List ℕ) (a : std.Result ℕ Refusal) → Wrote (on_read (λ t. encoded (special (λ b. make (ofFloat b)) (parse_special_float t))) (read_counted x)) o a
+    text-way : get_or s 0 0 ≡ 7 → (x : List ℕ) → x ≡ drop 1 s → (o : List ℕ) (a : std.Result ℕ Refusal) → Wrote (on_read (λ t. encoded (special (λ b. make (ofFloat b)) (parse_special_float t))) (read_counted x)) o a
         → Wrote (on_read (λ v. encoded (f v)) (read_value d s)) o a
     text-way e = text-answered f d s p (λ t. special (λ b. make (ofFloat b)) (parse_special_float t)) 7 string-content e F.of-text
 
@@ -90,7 +99,7 @@ module _ {f : Value → Outcome} {make : ℕ → Outcome} {of_int ofLong ofFloat
 
   module _ (r : Read (List ℕ)) (t u : List ℕ) (e : r ≡ some (t, u)) (a : std.Option ℕ) (h : a ≡ special_of (parse_special_float t)) (o : List ℕ) where
     -- one of the five
-    pub bits-way : (b x : ℕ) → a ≡ Some b → x ≡ ofFloat b → (z : std.Result ℕ Refusal) → Wrote (encoded (make x)) o z → Wrote (on_read (λ t. encoded (special (λ b. make (ofFloat b)) (parse_special_float t))) r) o z
+    bits-way : (b x : ℕ) → a ≡ Some b → x ≡ ofFloat b → (z : std.Result ℕ Refusal) → Wrote (encoded (make x)) o z → Wrote (on_read (λ t. encoded (special (λ b. make (ofFloat b)) (parse_special_float t))) r) o z
     unfolding on_read special
     bits-way b x q i z w = subst (λ y. Wrote y o z) (sym (ap (on_read (λ t. encoded (special (λ b. make (ofFloat b)) (parse_special_float t)))) e ∙ ap encoded (go (parse_special_float t) (sym h ∙ q)))) w
       where
@@ -99,10 +108,29 @@ module _ {f : Value → Outcome} {make : ℕ → Outcome} {of_int ofLong ofFloat
         go (some c) q = let k : c ≡ b = cc in ap make (ap ofFloat k ∙ sym i)
 
     -- any other
-    pub none-way : a ≡ None → Wrote (on_read (λ t. encoded (special (λ b. make (ofFloat b)) (parse_special_float t))) r) o (Err Unsuited)
+    none-way : a ≡ None → Wrote (on_read (λ t. encoded (special (λ b. make (ofFloat b)) (parse_special_float t))) r) o (Err Unsuited)
     unfolding special
     none-way q = wrote-refusal (λ t. special (λ b. make (ofFloat b)) (parse_special_float t)) r t u e o Unsuited (go (parse_special_float t) (sym h ∙ q))
       where
         go : (y : Option ℕ) → special_of y ≡ None → special (λ b. make (ofFloat b)) y ≡ stop 6
         go none q = refl
         go (some c) q = let z : ◌≡◌ {A = ℕ} 0 1 = cc in absurd (omega arith)
+
+  -- ---- a text's Float, or that it has none, where a node holds a text
+
+  module _ (d : ℕ) (s : List ℕ) (p : Reads (read_value d s)) (h : get_or s 0 0 ≡ 7) (x : List ℕ) (q : x ≡ drop 1 s) (a : std.Result ℕ Refusal)
+      (g : (t u : List ℕ) → read_counted x ≡ some (t, u) → a ≡ ok_or (special_of (parse_special_float t)) Unsuited) where
+    pub text-number : (b y : ℕ) → a ≡ Ok b → y ≡ ofFloat b → (o : List ℕ) (z : std.Result ℕ Refusal) → Wrote (encoded (make y)) o z → Wrote (on_read (λ v. encoded (f v)) (read_value d s)) o z
+    unfolding Reads
+    text-number b y i j o z w =
+        let n = text-reads-counted d s p 7 string-content h in
+        let e : read_counted x ≡ some (n.0, n.1.0) = ap read_counted q ∙ n.1.1 in
+        text-way d s p h x q o z (bits-way (read_counted x) n.0 n.1.0 e _ refl o b y (ok-some _ b (sym (g _ _ e) ∙ i)) j z w)
+
+    pub text-other : (r : Refusal) → a ≡ Err r → (o : List ℕ) → Wrote (on_read (λ v. encoded (f v)) (read_value d s)) o (Err r)
+    unfolding Reads
+    text-other r i o =
+        let n = text-reads-counted d s p 7 string-content h in
+        let e : read_counted x ≡ some (n.0, n.1.0) = ap read_counted q ∙ n.1.1 in
+        let k = err-none _ r (sym (g _ _ e) ∙ i) in
+        rw k.1 (text-way d s p h x q o (Err Unsuited) (none-way (read_counted x) n.0 n.1.0 e _ refl o k.0))

@@ -3,38 +3,31 @@
 #![tactic(auto)]
 
 ghost use Rattle.std.specs.Prelude.{◌≡◌, List, ◌∷◌, true, ℕ, ◌≤◌, ◌<◌, get_or};
+ghost use Rattle.std.specs.Option.{ok_or};
 ghost use Rattle.std.proofs.Math.Option.{some};
-ghost use Rattle.number.specs.Number.{bytes_of};
 ghost use Rattle.text.specs.Read.{read_counted};
 ghost use Rattle.text.specs.Measured.{Reads};
-ghost use Rattle.scalar.specs.Conversion.{double_of_float, parse_special_float};
+ghost use Rattle.scalar.specs.Conversion.{parse_special_float};
 ghost use Rattle.scalar.specs.Scalars.{is_scalar};
+ghost use Rattle.bits.specs.Special.{special_of};
 ghost use Rattle.frame.specs.Tree.{Value};
 ghost use Rattle.frame.specs.ValueFrame.{read_value, encode_value};
 ghost use Rattle.buffer.specs.Built.{Built, Wrote};
-ghost use Rattle.types.specs.Types.{resolve_null, resolve_boolean, resolve_int, resolve_long, float_of_bits, double_of_bits, special, resolve_float, resolve_double, resolve_plain};
+ghost use Rattle.types.specs.Types.{resolve_null, resolve_boolean, resolve_int, resolve_long, float_of_bits, double_of_bits, resolve_float, resolve_double, resolve_plain};
 ghost use Rattle.types.specs.Contract.{encoded, on_read, value_of, scalar_of, cast_outcome};
 
 use base::refusal::Refusal;
 use frame::kind;
 use scalar::{CastError, Scalar};
 
-// A node of a kind and a number of 4 bytes.
-fn put_node4(out: &mut [u8], kind: u8, n: u32) -> usize
-    ensures { Built (kind ∷ bytes_of 4 n) out.new result }
+// A node of a kind and a number, by the number's bytes.
+fn put_node<const N: usize>(out: &mut [u8], kind: u8, number: [u8; N]) -> usize
+    requires { N ≤ 8 }
+    ensures { Built (kind ∷ number.entry) out.new result }
 {
-    let mut b = [kind, 0, 0, 0, 0];
-    number::put4(&mut b, 1, n);
-    buffer::put(out, &b)
-}
-
-// A node of a kind and a number of 8 bytes. The two stay apart: a u32 and a u64 are put into the array by functions of their own.
-fn put_node8(out: &mut [u8], kind: u8, n: u64) -> usize
-    ensures { Built (kind ∷ bytes_of 8 n) out.new result }
-{
-    let mut b = [kind, 0, 0, 0, 0, 0, 0, 0, 0];
-    number::put8(&mut b, 1, n);
-    buffer::put(out, &b)
+    let mut node = [kind; 9];
+    node[1..N + 1].copy_from_slice(&number);
+    buffer::put(out, &node[..N + 1])
 }
 
 // A scalar as a node.
@@ -44,9 +37,9 @@ pub fn put_scalar(out: &mut [u8], s: Scalar) -> usize
     let k = s.kind();
     let n = s.content();
     if scalar::is_short(k) {
-        put_node4(out, k, (n % 0x1_0000_0000) as u32)
+        put_node(out, k, ((n % 0x1_0000_0000) as u32).to_be_bytes())
     } else {
-        put_node8(out, k, n)
+        put_node(out, k, n.to_be_bytes())
     }
 }
 
@@ -129,67 +122,56 @@ fn put_float(out: &mut [u8], b: u32) -> Result<usize, Refusal>
     if 0x7f80_0000 < b % 0x8000_0000 {
         return Err(Refusal::NotANumber);
     }
-    Ok(put_node4(out, kind::FLOAT, b))
+    Ok(put_node(out, kind::FLOAT, b.to_be_bytes()))
 }
 
-// A Double as a node, unless it is a NaN.
+// A Double as a node, unless it is a NaN. Apart from a Float's: a function of both would need a trait with the kind and the infinity of each.
 fn put_double(out: &mut [u8], b: u64) -> Result<usize, Refusal>
     ensures { Wrote (encoded (double_of_bits b)) out.new result }
 {
     if 0x7ff0_0000_0000_0000 < b % 0x8000_0000_0000_0000 {
         return Err(Refusal::NotANumber);
     }
-    Ok(put_node8(out, kind::DOUBLE, b))
+    Ok(put_node(out, kind::DOUBLE, b.to_be_bytes()))
 }
 
-// A text as a Float: one of those that parse_special_float knows.
-fn float_of_text(s: &[u8], out: &mut [u8]) -> Result<usize, Refusal>
+// The bits of the Float that a text stands for: one of those that parse_special_float knows.
+fn float_of_text(s: &[u8]) -> Result<u32, Refusal>
     requires { Reads (read_counted s.now) }
-    ensures { Wrote (on_read (λ t. encoded (special (λ b. float_of_bits b) (parse_special_float t))) (read_counted s.now)) out.new result }
+    ensures { (t u : List ℕ) → read_counted s.now ≡ some (t, u) → result ≡ ok_or (special_of (parse_special_float t)) Refusal.Unsuited }
 {
-    match bits::parse_special_float(text::content(s)) {
-        Some(b) => put_float(out, b),
-        None => Err(Refusal::Unsuited),
-    }
+    bits::parse_special_float(text::content(s)).ok_or(Refusal::Unsuited)
 }
 
+// To Float and to Double from each kind by itself: as one function, by way of a Scalar, they take twice the time.
 fn resolve_float(v: &[u8], out: &mut [u8], depth: usize) -> Result<usize, Refusal>
     requires { Reads (read_value depth v.now) }
     ensures { Wrote (on_read (λ w. encoded (resolve_float w)) (read_value depth v.now)) out.new result }
 {
-    match v[0] {
-        kind::INT => put_float(out, bits::int_to_float(number::read4(v, 1))),
-        kind::LONG => put_float(out, bits::long_to_float(number::read8(v, 1))),
-        kind::FLOAT => put_float(out, bits::float_to_float(number::read4(v, 1))),
-        kind::DOUBLE => put_float(out, bits::double_to_float(number::read8(v, 1))),
-        kind::STRING => float_of_text(&v[1..], out),
-        _ => Err(Refusal::Unsuited),
-    }
-}
-
-// A text as a Double: that Float, widened.
-fn double_of_text(s: &[u8], out: &mut [u8]) -> Result<usize, Refusal>
-    requires { Reads (read_counted s.now) }
-    ensures { Wrote (on_read (λ t. encoded (special (λ b. double_of_bits (double_of_float b)) (parse_special_float t))) (read_counted s.now)) out.new result }
-{
-    match bits::parse_special_float(text::content(s)) {
-        Some(b) => put_double(out, bits::float_to_double(b)),
-        None => Err(Refusal::Unsuited),
-    }
+    let b = match v[0] {
+        kind::INT => bits::int_to_float(number::read4(v, 1)),
+        kind::LONG => bits::long_to_float(number::read8(v, 1)),
+        kind::FLOAT => bits::float_to_float(number::read4(v, 1)),
+        kind::DOUBLE => bits::double_to_float(number::read8(v, 1)),
+        kind::STRING => float_of_text(&v[1..])?,
+        _ => return Err(Refusal::Unsuited),
+    };
+    put_float(out, b)
 }
 
 fn resolve_double(v: &[u8], out: &mut [u8], depth: usize) -> Result<usize, Refusal>
     requires { Reads (read_value depth v.now) }
     ensures { Wrote (on_read (λ w. encoded (resolve_double w)) (read_value depth v.now)) out.new result }
 {
-    match v[0] {
-        kind::INT => put_double(out, bits::int_to_double(number::read4(v, 1))),
-        kind::LONG => put_double(out, bits::long_to_double(number::read8(v, 1))),
-        kind::FLOAT => put_double(out, bits::float_to_double(number::read4(v, 1))),
-        kind::DOUBLE => put_double(out, bits::double_to_double(number::read8(v, 1))),
-        kind::STRING => double_of_text(&v[1..], out),
-        _ => Err(Refusal::Unsuited),
-    }
+    let b = match v[0] {
+        kind::INT => bits::int_to_double(number::read4(v, 1)),
+        kind::LONG => bits::long_to_double(number::read8(v, 1)),
+        kind::FLOAT => bits::float_to_double(number::read4(v, 1)),
+        kind::DOUBLE => bits::double_to_double(number::read8(v, 1)),
+        kind::STRING => bits::float_to_double(float_of_text(&v[1..])?),
+        _ => return Err(Refusal::Unsuited),
+    };
+    put_double(out, b)
 }
 
 // resolve_date to resolve_local_timestamp_nanos, by the kind.

@@ -76,7 +76,10 @@ fn record_finish(v: &[u8]) -> Option<Entry>
 pub fn finish(v: &[u8]) -> Option<Entry>
     ensures { Says (finish_of v.now) v.now result }
 {
-    if !value::is_frame(v) || v[0] != kind::RECORD {
+    if !value::is_frame(v) {
+        return None;
+    }
+    if v[0] != kind::RECORD {
         return None;
     }
     record_finish(v)

@@ -49,6 +49,7 @@ pub fn to_hex(bytes: &[u8], out: &mut [u8])
     requires { 2 * length bytes.now ≤ length out.old }
     ensures { out.new ≡ hex_of bytes.now ++ drop (2 * length bytes.now) out.old }
 {
+    // By index: what a slice holds after it was lent in chunks, std doesn't say.
     for (i, b) in bytes.iter().enumerate() {
         out[2 * i] = small_digit(*b / 16);
         out[2 * i + 1] = small_digit(*b % 16);
@@ -61,6 +62,7 @@ pub fn decimal_to(n: u8, out: &mut [u8]) -> usize
     ensures value { (result ≡ length (decimal n)) × (result ≤ 2) }
     ensures out_after { out.new ≡ decimal n ++ drop (length (decimal n)) out.old }
 {
+    // By hand: whether `write!` has room, and what stands behind its text, std doesn't say.
     if n < 10 {
         out[0] = small_digit(n);
         1

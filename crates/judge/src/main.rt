@@ -7,10 +7,9 @@ ghost use Rattle.std.specs.Prelude.{◌≡◌};
 ghost use Rattle.judge.specs.Mark.{schema_mark, value_mark, mark_of};
 
 use frame::Verdict;
-use lines::input::Reader;
+use streams::CanWrite;
 use streams::output::Output;
 use streams::tally::Tally;
-use streams::{CanRead, CanWrite};
 
 #[tactic(auto, unfolding(crate::specs::Mark::schema_mark))]
 fn schema_mark(v: Verdict) -> u8
@@ -61,28 +60,6 @@ fn counted(t: Tally, line: &[u8], room: &mut [u8], out: &mut Output<'_, impl Can
     t.compared(found == line[n - 1], out)
 }
 
-// The list, up to its end or the first write that fails.
-// A proved loop has to end, and nothing says that the input does. So there are as many turns as no run uses up.
-fn all<R: CanRead + CanWrite>(
-    rt: &R,
-    block: &mut [u8],
-    line: &mut [u8],
-    room: &mut [u8],
-    out: &mut Output<'_, R>,
-) -> Tally {
-    let mut r = Reader::start();
-    let mut t = Tally::start();
-    for _ in 0..u64::MAX {
-        r = streams::input::next(rt, r, block, line);
-        if !r.whole || !out.ok {
-            return t;
-        }
-        let n = r.filled;
-        t = counted(t, &line[0..n], room, out);
-    }
-    t
-}
-
 fn main(rt: HostRuntime) {
     if streams::output::usage(
         &rt,
@@ -95,6 +72,9 @@ fn main(rt: HostRuntime) {
     let mut line = [0u8; 131200];
     let mut room = [0u8; 65600];
     let mut out = Output::new(&rt);
-    let t = all(&rt, &mut block, &mut line, &mut room, &mut out);
+    let mut t = Tally::start();
+    streams::input::each_line(&rt, &mut block, &mut line, &mut out, |line, out| {
+        t = counted(t, line, &mut room, out);
+    });
     t.report(b" frames", &mut out);
 }

@@ -2,6 +2,7 @@
 #![tactic(auto)]
 
 pub mod input;
+pub mod list;
 
 ghost use Rattle.std.specs.Prelude.{◌≡◌, [], ◌∷◌, ◌++◌, ◌+◌, ◌*◌, ◌≤◌, ◌<◌, length, take, drop};
 ghost use Rattle.base.specs.Base.{ok, stop};

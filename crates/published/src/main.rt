@@ -9,23 +9,7 @@ mod line;
 mod number_line;
 mod text_line;
 
-use lines::input::Reader;
 use streams::output::Output;
-use streams::{CanRead, CanWrite};
-
-// A proved loop has to end, and nothing says that the input does. So there are as many turns as no run uses up.
-fn all<R: CanRead + CanWrite>(rt: &R, block: &mut [u8], text: &mut [u8]) {
-    let mut out = Output::new(rt);
-    let mut r = Reader::start();
-    for _ in 0..u64::MAX {
-        r = streams::input::next(rt, r, block, text);
-        if !r.whole || !out.ok {
-            return;
-        }
-        let n = r.filled;
-        line::answer(&mut out, &text[0..n]);
-    }
-}
 
 fn main(rt: HostRuntime) {
     if streams::output::usage(
@@ -37,5 +21,8 @@ fn main(rt: HostRuntime) {
     }
     let mut block = [0u8; 4096];
     let mut text = [0u8; 4096];
-    all(&rt, &mut block, &mut text);
+    let mut out = Output::new(&rt);
+    streams::input::each_line(&rt, &mut block, &mut text, &mut out, |line, out| {
+        line::answer(out, line);
+    });
 }

@@ -3,17 +3,9 @@
 use streams::CanWrite;
 use streams::output::Output;
 
-fn put4(out: &mut Output<'_, impl CanWrite>, b: u32) {
-    out.put_hex(b as u64, 8);
-}
-
-fn put8(out: &mut Output<'_, impl CanWrite>, b: u64) {
-    out.put_hex(b, 16);
-}
-
 fn long_to_int_of(out: &mut Output<'_, impl CanWrite>, b: u64) {
     match scalar::long_to_int(b) {
-        Some(n) => put4(out, n),
+        Some(n) => out.put_hex(n as u64, 8),
         None => out.put(b"outside Int"),
     }
 }
@@ -21,11 +13,11 @@ fn long_to_int_of(out: &mut Output<'_, impl CanWrite>, b: u64) {
 // The conversions of an Int and of a Float.
 fn of_four(out: &mut Output<'_, impl CanWrite>, name: &[u8], b: u32) -> bool {
     match name {
-        b"int-to-long" => put8(out, bits::int_to_long(b)),
-        b"int-to-float" => put4(out, bits::int_to_float(b)),
-        b"int-to-double" => put8(out, bits::int_to_double(b)),
-        b"float-to-float" => put4(out, bits::float_to_float(b)),
-        b"float-to-double" => put8(out, bits::float_to_double(b)),
+        b"int-to-long" => out.put_hex(bits::int_to_long(b), 16),
+        b"int-to-float" => out.put_hex(bits::int_to_float(b) as u64, 8),
+        b"int-to-double" => out.put_hex(bits::int_to_double(b), 16),
+        b"float-to-float" => out.put_hex(bits::float_to_float(b) as u64, 8),
+        b"float-to-double" => out.put_hex(bits::float_to_double(b), 16),
         _ => return false,
     }
     true
@@ -35,10 +27,10 @@ fn of_four(out: &mut Output<'_, impl CanWrite>, name: &[u8], b: u32) -> bool {
 fn of_eight(out: &mut Output<'_, impl CanWrite>, name: &[u8], b: u64) -> bool {
     match name {
         b"long-to-int" => long_to_int_of(out, b),
-        b"long-to-float" => put4(out, bits::long_to_float(b)),
-        b"long-to-double" => put8(out, bits::long_to_double(b)),
-        b"double-to-float" => put4(out, bits::double_to_float(b)),
-        b"double-to-double" => put8(out, bits::double_to_double(b)),
+        b"long-to-float" => out.put_hex(bits::long_to_float(b) as u64, 8),
+        b"long-to-double" => out.put_hex(bits::long_to_double(b), 16),
+        b"double-to-float" => out.put_hex(bits::double_to_float(b) as u64, 8),
+        b"double-to-double" => out.put_hex(bits::double_to_double(b), 16),
         _ => return false,
     }
     true

@@ -3,7 +3,7 @@
 ghost use Rattle.std.specs.Prelude.{◌≡◌, true};
 ghost use Rattle.utf8.specs.Utf8.{is_utf8};
 
-use crate::line::space;
+use lines::list::space;
 use streams::CanWrite;
 use streams::output::Output;
 
@@ -65,12 +65,11 @@ fn float_text_of(out: &mut Output<'_, impl CanWrite>, s: &[u8]) {
 
 // Two texts with a space between them: whether they are the same, and how many byte pairs were looked at.
 fn compare_of(out: &mut Output<'_, impl CanWrite>, given: &[u8]) -> bool {
-    let at = space(given);
-    if at == given.len() {
+    let Some(at) = space(given) else {
         return false;
-    }
+    };
     let from = at + 1;
-    let c = text::compare(&given[0..at], &given[from..]);
+    let c = text::compare(&given[..at], &given[from..]);
     if c.same {
         out.put(b"same ");
     } else {

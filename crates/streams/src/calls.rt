@@ -113,6 +113,8 @@ fn failed(error: io::Error) -> Call
     }
 }
 
+// A function for reads and one for writes, each time: a read fills what it is handed, and a write only looks at it.
+
 // A read that a signal broke off is tried again.
 // A proved loop has to end, so there are as many turns as no run uses up.
 #[tactic(auto, unfolding(crate::specs::Calls::Within, crate::specs::Calls::is_again))]

@@ -1,12 +1,13 @@
 // Standard input, read in blocks that are cut into lines.
 // No contract of the language says what is read. What a read makes of the reader is proved; `finish` and `next`, which read, are proved safe
 // only.
-ghost use Rattle.std.specs.Prelude.{◌≡◌, ◌≤◌, ◌<◌, length};
+ghost use Rattle.std.specs.Prelude.{◌≡◌, ◌≤◌, ◌<◌, length, false};
 ghost use Rattle.lines.specs.Held.{Held, uncut};
 ghost use Rattle.streams.specs.Supplied.{Refilled, spent, supplied};
 
 use crate::calls::{Call, Step};
-use crate::{CanRead, calls, message};
+use crate::output::Output;
+use crate::{CanRead, CanWrite, calls, message};
 use lines::input::Reader;
 
 // A reader with nothing to come and nothing held.
@@ -101,4 +102,27 @@ pub fn next(rt: &impl CanRead, r: Reader, block: &mut [u8], line: &mut [u8]) -> 
         return t;
     }
     finish(rt, t, block, line)
+}
+
+// Each line of the input to a function, up to the input's end or the first write that fails.
+// A proved loop has to end, and nothing says that the input does. So there are as many turns as no run uses up.
+pub fn each_line<R: CanRead + CanWrite, F: FnMut(&[u8], &mut Output<'_, R>)>(
+    rt: &R,
+    block: &mut [u8],
+    line: &mut [u8],
+    out: &mut Output<'_, R>,
+    mut f: F,
+)
+    requires { F.IsAlwaysCallable f }
+    ensures { out.old.ok ≡ false → out.new.ok ≡ false }
+{
+    let mut r = Reader::start();
+    for _ in 0..u64::MAX {
+        r = next(rt, r, block, line);
+        if !r.whole || !out.ok {
+            return;
+        }
+        let n = r.filled;
+        f(&line[..n], out);
+    }
 }

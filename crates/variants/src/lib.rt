@@ -124,10 +124,7 @@ pub fn stands_in(s: &[u8], at: usize, n: usize, i: usize) -> bool
 pub fn is_at(found: Option<usize>, i: usize) -> bool
     ensures { result ≡ is_at found i }
 {
-    match found {
-        Some(u) => u == i,
-        None => false,
-    }
+    found == Some(i)
 }
 
 // The position that a kind table gives for a kind.
@@ -151,14 +148,10 @@ pub fn table_position(s: &[u8], kind: Option<u8>, depth: usize) -> Option<usize>
     requires { Reads (read_schema depth s.now) × (get_or s.now 0 0 ≡ 10) }
     ensures { OnRead (λ t. result ≡ found_of (table_lookup (kind_table t) (wanted_of kind))) (read_schema depth s.now) }
 {
-    match kind {
-        None => None,
-        Some(k) => {
-            let n = number::read2(s, 1) as usize;
-            let at = variant_at(s, n, depth);
-            look_up(&s[at..], k)
-        }
-    }
+    let k = kind?;
+    let n = number::read2(s, 1) as usize;
+    let at = variant_at(s, n, depth);
+    look_up(&s[at..], k)
 }
 
 // Whether the kind of the schema at the front is one that is not taken untried.

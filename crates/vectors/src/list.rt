@@ -1,5 +1,5 @@
 // The lines of a list of recorded answers, one by one.
-ghost use Rattle.std.specs.Prelude.{◌≡◌, ◌<◌, ◌≤◌, length};
+ghost use Rattle.std.specs.Prelude.{◌≡◌, ◌<◌, ◌≤◌, length, IfSome};
 ghost use Rattle.vectors.specs.Buffers.{Buffers, Replayed};
 
 use streams::CanWrite;
@@ -25,17 +25,15 @@ fn digit(c: u8) -> usize
     }
 }
 
-// The number in a refusal's line; 0 for any other line.
-fn number(line: &[u8]) -> usize
-    ensures { result < 100 }
+// The number in a refusal's line.
+fn number(line: &[u8]) -> Option<usize>
+    ensures { IfSome result (λ n. n < 100) }
 {
-    if line.len() < 3 || line[0] != b'-' {
-        return 0;
+    match line {
+        [b'-', _, units] => Some(digit(*units)),
+        [b'-', _, tens, units, ..] => Some(digit(*tens) * 10 + digit(*units)),
+        _ => None,
     }
-    if line.len() == 3 {
-        return digit(line[2]);
-    }
-    digit(line[2]) * 10 + digit(line[3])
 }
 
 // The line's place in the list, the crate's answer there, and the program's.
@@ -86,7 +84,8 @@ impl Replay {
         requires { Replayed self × (length counts.old ≡ 100) }
         ensures { Replayed result }
     {
-        let n = number(line);
+        // No refusal has the number 0, so accepted answers are counted there.
+        let n = number(line).unwrap_or(0);
         counts[n] = counts[n].wrapping_add(1);
         let compared = self.compared.wrapping_add(1);
         if text::same(line, got) {

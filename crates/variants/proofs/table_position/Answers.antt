@@ -8,6 +8,10 @@ use Rattle.variants.specs.Ways.{found_of, kind_table, wanted_of, lookup_read}
 use Rattle.variants.proofs.UnionReading.{on-read-of, union-parts, table-reads}
 use Rattle.variants.proofs.table_position.Goals as goal
 
+pub returns-in_err-k : goal.returns-in_err-k
+unfolding Reads found_of table_lookup wanted_of
+returns-in_err-k c = on-read-of _ _ c.requires.0.0 c.requires.0.1.0 c.requires.0.1.1 (rw c.in_err-k.was c.from_residual.ensures)
+
 pub read2-n-requires : goal.read2-n-requires
 unfolding Reads
 read2-n-requires c = (union-parts c.args.depth c.args.s.now c.requires.0.0 c.requires.0.1.0 c.requires.0.1.1 c.requires.1).long
@@ -16,10 +20,6 @@ pub look_up-requires : goal.look_up-requires
 unfolding Reads
 look_up-requires c = rw part_to_end (reads-some _ _ (table-reads c.args.depth c.args.s.now c.requires.0.0 (union-parts c.args.depth c.args.s.now c.requires.0.0 c.requires.0.1.0 c.requires.0.1.1 c.requires.1) _ _ c.variant_at-at.ensures c.read2-n.ensures))
 
-pub returns-in-None : goal.returns-in-None
-unfolding Reads found_of table_lookup wanted_of
-returns-in-None c = on-read-of _ _ c.requires.0.0 c.requires.0.1.0 c.requires.0.1.1 (rw c.in-None.is)
-
-pub returns-in-Some : goal.returns-in-Some
+pub returns : goal.returns
 unfolding Reads lookup_read table_lookup wanted_of
-returns-in-Some c = on-read-of _ _ c.requires.0.0 c.requires.0.1.0 c.requires.0.1.1 (rw part_to_end at c.look_up.ensures ∙ ap (λ x. found_of (lookup_read c.in-Some.k x)) (table-reads c.args.depth c.args.s.now c.requires.0.0 (union-parts c.args.depth c.args.s.now c.requires.0.0 c.requires.0.1.0 c.requires.0.1.1 c.requires.1) _ _ c.variant_at-at.ensures c.read2-n.ensures) ∙ ap (λ x. found_of (table_lookup (kind_table c.requires.0.0) (wanted_of x))) (sym c.in-Some.is))
+returns c = on-read-of _ _ c.requires.0.0 c.requires.0.1.0 c.requires.0.1.1 (rw part_to_end at c.look_up.ensures ∙ ap (λ x. found_of (lookup_read c.in_ok-k.k x)) (table-reads c.args.depth c.args.s.now c.requires.0.0 (union-parts c.args.depth c.args.s.now c.requires.0.0 c.requires.0.1.0 c.requires.0.1.1 c.requires.1) _ _ c.variant_at-at.ensures c.read2-n.ensures) ∙ ap (λ x. found_of (table_lookup (kind_table c.requires.0.0) (wanted_of x))) (sym c.in_ok-k.was))

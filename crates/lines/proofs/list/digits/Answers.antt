@@ -1,8 +1,8 @@
--- `almanac::digits` meets its contract. Assumes nothing.
+-- `lines::list::digits` meets its contract. Assumes nothing.
 use mathlib.Core.Path.{sym}
 use native.Mathlib.Omega.{arith}
 use lib.Seq.{length-take-le}
-use Rattle.almanac.proofs.digits.Goals as goal
+use Rattle.lines.proofs.list.digits.Goals as goal
 
 pub slice_bounds-to_hex-end : goal.slice_bounds-to_hex-end
 slice_bounds-to_hex-end c = sym (length-take-le _ _ (omega arith))

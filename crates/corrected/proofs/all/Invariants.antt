@@ -1,8 +1,0 @@
--- The loop of `corrected::all`: the reader and its buffers go together, and the buffers keep their lengths.
-use mathlib.Core.Path.{◌≡◌}
-use lib.ListN.{length}
-use Rattle.lines.specs.Held.{Held}
-use Rattle.corrected.proofs.all.Given as goal
-
-abbrev pub invariant-loop : goal.invariant-loop
-invariant-loop g l = Held l.r l.block l.line × (length l.line ≡ length l.initial.line)
