@@ -29,25 +29,62 @@ pub enum Shape {
 pub fn shape_of(k: u8) -> Shape
     ensures { result ≡ shape (kind_content k) }
 {
-    match k {
-        kind::NULL => Shape::Fixed(0),
-        kind::BOOLEAN => Shape::Flag,
-        kind::INT | kind::FLOAT => Shape::Fixed(4),
-        kind::LONG | kind::DOUBLE => Shape::Fixed(8),
-        kind::BYTES => Shape::Counted,
-        kind::STRING => Shape::Text,
-        kind::ARRAY => Shape::Array,
-        kind::MAP => Shape::Map,
-        kind::UNION => Shape::Union,
-        kind::RECORD => Shape::Entries,
-        kind::ENUM => Shape::Symbol,
-        kind::FIXED..=kind::DECIMAL => Shape::Counted,
-        kind::UUID => Shape::Fixed(16),
-        kind::DATE..=kind::TIME_MILLIS => Shape::Fixed(4),
-        kind::TIME_MICROS..=kind::LOCAL_TIMESTAMP_NANOS => Shape::Fixed(8),
-        kind::DURATION => Shape::Fixed(12),
-        _ => Shape::Unknown,
+    // Measured: comparisons in this order and no match of the kinds, so that a leaf needs no jump table and saves no registers.
+    if k <= kind::STRING {
+        if k <= kind::NULL {
+            return Shape::Fixed(0);
+        }
+        if k <= kind::BOOLEAN {
+            return Shape::Flag;
+        }
+        if k <= kind::INT {
+            return Shape::Fixed(4);
+        }
+        if k <= kind::LONG {
+            return Shape::Fixed(8);
+        }
+        if k <= kind::FLOAT {
+            return Shape::Fixed(4);
+        }
+        if k <= kind::DOUBLE {
+            return Shape::Fixed(8);
+        }
+        if k <= kind::BYTES {
+            return Shape::Counted;
+        }
+        return Shape::Text;
     }
+    if k <= kind::ENUM {
+        if k <= kind::ARRAY {
+            return Shape::Array;
+        }
+        if k <= kind::MAP {
+            return Shape::Map;
+        }
+        if k <= kind::UNION {
+            return Shape::Union;
+        }
+        if k <= kind::RECORD {
+            return Shape::Entries;
+        }
+        return Shape::Symbol;
+    }
+    if k <= kind::DECIMAL {
+        return Shape::Counted;
+    }
+    if k <= kind::UUID {
+        return Shape::Fixed(16);
+    }
+    if k <= kind::TIME_MILLIS {
+        return Shape::Fixed(4);
+    }
+    if k <= kind::LOCAL_TIMESTAMP_NANOS {
+        return Shape::Fixed(8);
+    }
+    if k <= kind::DURATION {
+        return Shape::Fixed(12);
+    }
+    Shape::Unknown
 }
 
 // The length of a content that holds no map.
