@@ -256,7 +256,7 @@ fn resolve_union(w: Walk, s: &[u8], v: &[u8], out: &mut [u8]) -> Result<usize, R
     // A loop: how many turns pass before one is the answer is not known.
     loop {
         match take_turn(w, s, v, out, way, turn, spot) {
-            Step::Ended(answer) => return answer,
+            Step::Ended(answer) => break answer,
             Step::Passed(to) => spot = to,
         }
         turn = next(way, turn);

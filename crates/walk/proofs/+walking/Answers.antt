@@ -591,12 +591,12 @@ resolve_union-loop-answer-smaller t c = turning-fewer _ _ _ _ _ _ _ (passed-of _
 pub resolve_union-loop-answer-preserved : goal.resolve_union-loop-answer-preserved
 resolve_union-loop-answer-preserved t c = (c.take_turn.auto.out ∙ c.loop-answer.invariant.0, turning-next _ _ _ _ _ _ _ (passed-of _ _ _ _ _ _ _ (rw c.in-Passed.is at c.take_turn.ensures)) _ c.next-turn.ensures)
 
-pub resolve_union-shape_of-out-in-Ended : goal.resolve_union-shape_of-out-in-Ended
-resolve_union-shape_of-out-in-Ended t c = c.take_turn.auto.out ∙ c.loop-answer.invariant.0
+pub resolve_union-shape_of-out : goal.resolve_union-shape_of-out
+resolve_union-shape_of-out t c = c.take_turn.auto.out ∙ c.loop-answer.invariant.0
 
-pub resolve_union-returns-in-Ended : goal.resolve_union-returns-in-Ended
+pub resolve_union-returns : goal.resolve_union-returns
 unfolding Steps
-resolve_union-returns-in-Ended t c = rw c.in-Ended.is at c.take_turn.ensures
+resolve_union-returns t c = rw c.in-Ended.is at c.take_turn.ensures
 
 pub take_turn-due_of-requires : goal.take_turn-due_of-requires
 take_turn-due_of-requires t c = (c.requires.going.goes, c.requires.there)
