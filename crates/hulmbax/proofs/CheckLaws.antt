@@ -125,11 +125,11 @@ stop-no-value v e = go (decode_value v) e
 
 -- ---- what their numbers say
 
--- a check that stops with n
 -- a refusal's number is not 0
 pub number-never-0 : (e : Refusal) → number_of e ≡ 0 → ⊥
 number-never-0 e z = omega (arith, number-positive e)
 
+-- a check that stops with n
 pub stops : {A : Type 0} (x : Result A) (n : ℕ) → n ≡ stop_of x → (n ≡ 0 → ⊥) → x ≡ stop n
 unfolding stop_of
 stops (ok a) n e f = absurd (f e)

@@ -9,7 +9,11 @@ use lib.Dec.{T, ltb, eqb, eqb_refl, not_T}
 use lib.ListN.{length}
 use lib.Ieee.Bits.{is_true, is_false}
 use lib.Ieee.Fits.{and_l, and_i}
+use Rattle.std.specs.Prelude as std
 use Rattle.base.specs.Base.{when◌then◌else◌, Result, ok, stop, after}
+use Rattle.base.specs.Refusal.{outcome_of}
+use Rattle.base.specs.declared.refusal.Refusal.{Refusal}
+use Rattle.base.proofs.Refusals.{outcome-injective}
 use Rattle.text.specs.Text.{Text, same}
 use Rattle.text.proofs.TextLaws.{same→≡}
 use Rattle.frame.specs.Kind
@@ -30,7 +34,7 @@ use Rattle.avro.specs.Pairs.{nullable_pair, nullable_pairs, is_null, only_null_l
 use Rattle.avro.proofs.SchemaCases.{childless, NotUnion, EveryField, every, pair, Steps, induction}
 use Rattle.avro.proofs.PairChoice.{null_is}
 use Rattle.stability.specs.Stability.{under_union, change, map_items, map_entries, has_name, keep_entry, keep_entries, strip, strip_field}
-use Rattle.stability.specs.Claims.{AreAlike, Alike}
+use Rattle.stability.specs.Claims.{AreAlike, Alike, Called}
 
 -- ---- texts
 
@@ -388,3 +392,12 @@ alike schema tree e p a b l buffer workspace buffer₁ workspace₁ buffer₂ wo
     one_answer (answer schema a (length buffer) (length workspace)) (answer schema b (length buffer) (length workspace))
     (answers-same schema a b tree e p l (length buffer) (length workspace))
     buffer workspace buffer₁ workspace₁ buffer₂ workspace₂ r₁ r₂ x.answered x.contents x.cleared y.answered y.contents y.cleared
+
+-- so the entry's own answers to alike records are the same, refusals by name included
+pub alike-answers : (schema : List ℕ) (tree : Schema) → decode_schema schema ≡ some tree → T (nullable_pairs tree)
+    → (a b : List ℕ) → AreAlike tree a b
+    → (buffer workspace buffer₁ workspace₁ buffer₂ workspace₂ : List ℕ) (r₁ r₂ : std.Result ℕ Refusal)
+    → Called schema a buffer buffer₁ workspace workspace₁ (outcome_of r₁) → Called schema b buffer buffer₂ workspace workspace₂ (outcome_of r₂)
+    → r₁ ≡ r₂
+alike-answers schema tree e p a b l buffer workspace buffer₁ workspace₁ buffer₂ workspace₂ r₁ r₂ x y =
+    outcome-injective r₁ r₂ (x.answered ∙ ap resolved_of (answers-same schema a b tree e p l (length buffer) (length workspace)) ∙ sym y.answered)

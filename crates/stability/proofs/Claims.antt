@@ -6,8 +6,12 @@ use mathlib.Core.Option.{some}
 use native.Mathlib.Omega.{arith}
 use lib.Dec.{T, le→leb}
 use lib.ListN.{length, take}
+use Rattle.std.specs.Prelude as std
 use Rattle.base.specs.Base.{Result, ok}
+use Rattle.base.specs.Refusal.{outcome_of}
+use Rattle.base.specs.declared.refusal.Refusal.{Refusal}
 use Rattle.base.proofs.Okay.{okay-is}
+use Rattle.base.proofs.Refusals.{outcome-injective}
 use Rattle.number.specs.Number.{all_bytes}
 use Rattle.frame.specs.Tree.{Value, Schema}
 use Rattle.frame.specs.ValueFrame.{decode_value, encode_value}
@@ -160,3 +164,9 @@ repeating schema value buffer buffer' workspace workspace' n c h calls r = all_g
 pub decided : Decided
 unfolding Decided
 decided schema value buffer workspace buffer₁ workspace₁ buffer₂ workspace₂ r₁ r₂ c d = (c.answered ∙ sym d.answered, c.contents ∙ sym d.contents, c.cleared ∙ sym d.cleared)
+
+-- so the entry's own answers to two such calls are the same, refusals by name included
+pub same-answers : (schema value buffer workspace buffer₁ workspace₁ buffer₂ workspace₂ : List ℕ) (r₁ r₂ : std.Result ℕ Refusal)
+    → Called schema value buffer buffer₁ workspace workspace₁ (outcome_of r₁) → Called schema value buffer buffer₂ workspace workspace₂ (outcome_of r₂)
+    → r₁ ≡ r₂
+same-answers schema value buffer workspace buffer₁ workspace₁ buffer₂ workspace₂ r₁ r₂ c d = outcome-injective r₁ r₂ (c.answered ∙ sym d.answered)
