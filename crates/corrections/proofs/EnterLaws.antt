@@ -9,12 +9,12 @@ use lib.ListN.{length, get_or, set, take, length-set, length-map, get_or-map}
 use lib.Seq.{length-take-le, take-suc-set, take-set-lt, get_or-take}
 use Rattle.base.specs.Base.{when◌then◌else◌}
 use Rattle.text.specs.Text.{Text}
+use Rattle.finishes.specs.declared.Entry.{Entry}
 use Rattle.current.specs.Current.{Finish, beats, listed, listed_by}
 use Rattle.current.specs.Entering.{entered_by, place_of}
 use Rattle.current.specs.Claims.{sails_of}
 use Rattle.current.proofs.Entering.{listed-append, place_inside, entered-new, entered-old}
 use Rattle.corrections.specs.Named.{places}
-use Rattle.corrections.specs.declared.Row.{Row}
 use Rattle.corrections.specs.Tables.{row_at, sail_at, row, rows, chosen, sails_at, Below}
 use Rattle.corrections.proofs.ReadingLaws.{rows_more}
 
@@ -42,7 +42,7 @@ below_at n [] k h l = absurd (omega (arith, l))
 below_at n (p ∷ ps) zero h l = h.0
 below_at n (p ∷ ps) (suc k) h l = below_at n ps k h.1 (omega (arith, l))
 
-module _ (input : List ℕ) (table : List Row) where
+module _ (input : List ℕ) (table : List Entry) where
   abbrev listing : List ℕ → List Finish
   listing ps = chosen input table ps
 
@@ -118,14 +118,14 @@ module _ (input : List ℕ) (table : List Row) where
       pub named-below : get_or out k 0 < i
       named-below = omega (arith, below_at i (take count out) k below (omega (arith, place-below, taken)), get_or-take count out k 0 place-below)
 
-      old : entered_by beats (listing (take count out)) (one i) ≡ (when beats (row_at table i).finish.rank (row_at table (get_or out k 0)).finish.rank then set (listing (take count out)) k (one i) else listing (take count out))
+      old : entered_by beats (listing (take count out)) (one i) ≡ (when beats (row_at table i).rank (row_at table (get_or out k 0)).rank then set (listing (take count out)) k (one i) else listing (take count out))
       unfolding row
       old =
           entered-old beats (listing (take count out)) (one i) (one 0) (omega (arith, place_is, place-below, length-chosen (take count out), taken))
-          ∙ ap (λ (m : ℕ). when beats (row_at table i).finish.rank (get_or (listing (take count out)) m (one 0)).seq then set (listing (take count out)) m (one i) else listing (take count out)) place_is
-          ∙ ap (λ (f : Finish). when beats (row_at table i).finish.rank f.seq then set (listing (take count out)) k (one i) else listing (take count out)) named
+          ∙ ap (λ (m : ℕ). when beats (row_at table i).rank (get_or (listing (take count out)) m (one 0)).seq then set (listing (take count out)) m (one i) else listing (take count out)) place_is
+          ∙ ap (λ (f : Finish). when beats (row_at table i).rank f.seq then set (listing (take count out)) k (one i) else listing (take count out)) named
 
-      pub entered-over : beats (row_at table i).finish.rank (row_at table (get_or out k 0)).finish.rank ≡ true → Entered count (set out k i)
+      pub entered-over : beats (row_at table i).rank (row_at table (get_or out k 0)).rank ≡ true → Entered count (set out k i)
       entered-over w =
           let q : take count (set out k i) ≡ set (take count out) k i = take-set-lt count out k i place-below in (
             omega arith,
@@ -134,7 +134,7 @@ module _ (input : List ℕ) (table : List Row) where
             ap listing q ∙ chosen-set (take count out) k i ∙ sym (old ∙ ap (λ (b : Bool). when b then set (listing (take count out)) k (one i) else listing (take count out)) w),
           )
 
-      pub entered-kept : beats (row_at table i).finish.rank (row_at table (get_or out k 0)).finish.rank ≡ false → Entered count out
+      pub entered-kept : beats (row_at table i).rank (row_at table (get_or out k 0)).rank ≡ false → Entered count out
       entered-kept w = (
         omega arith,
         size,

@@ -12,21 +12,21 @@ use Rattle.base.specs.Base.{when◌then◌else◌, Result, ok, stop}
 use Rattle.buffer.specs.After.{buffer_after, checked_result}
 use Rattle.buffer.proofs.AfterLaws.{checked_result-short, checked_result-fits}
 use Rattle.lists.specs.Frames.{frames}
+use Rattle.finishes.specs.declared.Entry.{Entry}
 use Rattle.current.specs.Current.{Finish, listed}
 use Rattle.corrections.specs.Named.{finishes, places, names_of, names_for, answer_of}
-use Rattle.corrections.specs.declared.Row.{Row}
 use Rattle.corrections.specs.Tables.{rows, Filled, Told}
 
-pub told-true : (b : Bool) (o : Option (List Finish)) (input : List ℕ) (table : List Row) (n : ℕ) → b ≡ true → Told b o input table n
-    → (o ≡ some (rows input table n)) × Filled input table n
+pub told-true : (b : Bool) (o : Option (List Finish)) (input : List ℕ) (table : List Entry) (hashes : List ℕ) (n : ℕ) → b ≡ true → Told b o input table hashes n
+    → (o ≡ some (rows input table n)) × Filled input table hashes n
 unfolding Told
-told-true true o input table n e t = t
-told-true false o input table n e t = let z : ◌≡◌ {A = ℕ} 0 1 = cc in absurd (omega arith)
+told-true true o input table hashes n e t = t
+told-true false o input table hashes n e t = let z : ◌≡◌ {A = ℕ} 0 1 = cc in absurd (omega arith)
 
-pub told-false : (b : Bool) (o : Option (List Finish)) (input : List ℕ) (table : List Row) (n : ℕ) → b ≡ false → Told b o input table n → o ≡ none
+pub told-false : (b : Bool) (o : Option (List Finish)) (input : List ℕ) (table : List Entry) (hashes : List ℕ) (n : ℕ) → b ≡ false → Told b o input table hashes n → o ≡ none
 unfolding Told
-told-false true o input table n e t = let z : ◌≡◌ {A = ℕ} 0 1 = cc in absurd (omega arith)
-told-false false o input table n e t = t
+told-false true o input table hashes n e t = let z : ◌≡◌ {A = ℕ} 0 1 = cc in absurd (omega arith)
+told-false false o input table hashes n e t = t
 
 stopped : (x : Result (List ℕ)) (k : ℕ) (b : List ℕ) → x ≡ stop k → (stop k ≡ answer_of x) × (b ≡ buffer_after x b)
 unfolding answer_of buffer_after

@@ -10,9 +10,9 @@ use lib.Seq.{drop-cons}
 use Rattle.base.specs.Base.{when◌then◌else◌}
 use Rattle.text.specs.Text.{Text, same}
 use Rattle.text.specs.Hash.{hash}
+use Rattle.finishes.specs.declared.Entry.{Entry}
 use Rattle.current.specs.Entering.{place_of}
 use Rattle.current.proofs.Sails.{same-is}
-use Rattle.corrections.specs.declared.Row.{Row}
 use Rattle.corrections.specs.Tables.{sail_at, sails_at, HasRow, Filled, Placed, Below}
 
 -- texts of other hashes differ
@@ -25,13 +25,13 @@ hashes-differ x y h k p q n = go (same x y) refl
 
 -- ---- the rows of places
 
-module _ (input : List ℕ) (table : List Row) where
-  pub placed_below : (n : ℕ) (ps : List ℕ) → Filled input table n → Below n ps → Placed input table ps
+module _ (input : List ℕ) (table : List Entry) (hashes : List ℕ) where
+  pub placed_below : (n : ℕ) (ps : List ℕ) → Filled input table hashes n → Below n ps → Placed input table hashes ps
   unfolding Placed Below
   placed_below n [] f b = tt
   placed_below n (p ∷ ps) f b = (f p b.0, placed_below n ps f b.1)
 
-  pub placed_at : (ps : List ℕ) (k : ℕ) → Placed input table ps → k < length ps → HasRow input table (get_or ps k 0)
+  pub placed_at : (ps : List ℕ) (k : ℕ) → Placed input table hashes ps → k < length ps → HasRow input table hashes (get_or ps k 0)
   unfolding Placed
   placed_at [] k h l = absurd (omega (arith, l))
   placed_at (p ∷ ps) zero h l = h.0
@@ -39,7 +39,7 @@ module _ (input : List ℕ) (table : List Row) where
 
 -- ---- the loop over them: k places passed, none of which has the sail
 
-module _ (input : List ℕ) (table : List Row) (ps : List ℕ) (x : Text) where
+module _ (input : List ℕ) (table : List Entry) (ps : List ℕ) (x : Text) where
   abbrev left : ℕ → ℕ
   left k = place_of (sails_at input table (drop k ps)) x
 

@@ -6,22 +6,25 @@ use mathlib.Core.List.{List, [], ◌∷◌}
 use mathlib.Core.Option.{none, some}
 use mathlib.Core.Bool.{Bool, true, false}
 use native.Mathlib.Omega.{arith}
-use lib.Dec.{eqb}
-use lib.ListN.{length, drop, get_or}
+use lib.Dec.{eqb, leb}
+use lib.ListN.{length, drop, get_or, length-drop}
 use lib.Seq.{drop-drop}
-use borrow.Author.Tests.{eqb-true, eqb-false, ne_eqb}
+use borrow.Author.Tests.{eqb-true, eqb-false, ne_eqb, leb-true, leb-false}
 use Rattle.number.specs.Number.{number_at}
+use Rattle.number.proofs.Laws.{number_at-one}
 use Rattle.text.specs.Read.{Read, ◌>>=◌, read_number, read_counted, read_text}
 use Rattle.text.specs.Measured.{Reads}
-use Rattle.frame.specs.Tree.{Schema}
+use Rattle.text.proofs.ReadLaws.{read_number-some}
+use Rattle.frame.specs.Tree.{Schema, UuidForm}
 use Rattle.frame.specs.Readers.{read_many, read_list, read_option}
 use Rattle.frame.specs.ValueFrame.{read_value}
-use Rattle.frame.specs.SchemaFrame.{Form, Under, bare, read_field, read_lead, read_tables, read_symbols, read_formed, read_schema_under}
+use Rattle.frame.specs.SchemaFrame.{Form, Under, bare, read_field, read_lead, read_tables, read_symbols, read_uuid_form, read_formed, read_schema_under}
 use Rattle.frame.specs.Checks.{Spans}
-use Rattle.frame.proofs.Reading.{map_read, reads-eq, reads_first, option-zero, option-one, option-long, option-is-one}
-use Rattle.frame.proofs.Measuring.{spans-some, spans-eq, spans-drop, spans-map, spans-after, reads-behind, number-spans, text-spans}
+use Rattle.frame.proofs.Reading.{map_read, not-reads, reads-eq, reads_first, reads-number, option-zero, option-one, option-long, option-is-one}
+use Rattle.frame.proofs.Measuring.{spans-le, spans-some, spans-eq, spans-drop, spans-map, spans-after, reads-behind, number-spans, text-spans}
 use Rattle.frame.proofs.Counting.{list-many, reads-list}
 use Rattle.frame.proofs.SchemaNodes.{schema-there-under, schema-opened-under}
+use Rattle.schema_parts.proofs.Leaves.{plain-low, plain-high, kind_past}
 use Rattle.schema.proofs.Nodes.{bare-content, array-content, map-content, record-content, enum-content}
 
 -- ---- two and three things, one behind the other
@@ -122,6 +125,32 @@ module _ (s : List ℕ) (r : Reads (read_symbols s)) where
   unfolding read_symbols
   symbols-spans = two-spans (read_list read_text s) (read_option read_text) (λ ss d. (ss, d)) s r
 
+-- ---- 00 bytes, 01 string, 02 fixed and size
+
+module _ (s : List ℕ) (r : Reads (read_uuid_form s)) where
+  pub uuid_form-long : 0 < length s
+  unfolding read_uuid_form
+  uuid_form-long = reads-number 1 s (reads_first (read_number 1 s) _ r)
+
+  module _ (e : get_or s 0 0 ≡ 2) where
+    uuid_form-sized : read_uuid_form s ≡ map_read UuidForm.fixed (read_number 2 (drop 1 s))
+    unfolding read_uuid_form ◌>>=◌
+    uuid_form-sized = rw (read_number-some 1 s uuid_form-long, number_at-one s 0 uuid_form-long, e)
+
+    pub uuid_form-fixed : Spans (read_uuid_form s) s 3
+    uuid_form-fixed =
+        let z : Spans (read_number 2 (drop 1 s)) (drop 1 s) 2 = number-spans 2 (drop 1 s) (reads_first (read_number 2 (drop 1 s)) _ (reads-eq _ _ uuid_form-sized r)) in
+        spans-eq _ _ s 3 uuid_form-sized (spans-drop _ s 1 2 uuid_form-long (spans-map UuidForm.fixed (read_number 2 (drop 1 s)) (drop 1 s) 2 z))
+
+  pub uuid_form-free : (get_or s 0 0 ≡ 2 → ⊥) → Spans (read_uuid_form s) s 1
+  unfolding read_uuid_form ◌>>=◌
+  uuid_form-free f = go (eqb (get_or s 0 0) 0) (eqb (get_or s 0 0) 1) refl refl
+    where
+      go : (a b : Bool) → eqb (get_or s 0 0) 0 ≡ a → eqb (get_or s 0 0) 1 ≡ b → Spans (read_uuid_form s) s 1
+      go true b e g = spans-some _ s 1 UuidForm.bytes uuid_form-long (rw (read_number-some 1 s uuid_form-long, number_at-one s 0 uuid_form-long, e))
+      go false true e g = spans-some _ s 1 UuidForm.string uuid_form-long (rw (read_number-some 1 s uuid_form-long, number_at-one s 0 uuid_form-long, e, g))
+      go false false e g = absurd (not-reads _ (rw (read_number-some 1 s uuid_form-long, number_at-one s 0 uuid_form-long, e, g, ne_eqb _ _ f)) r)
+
 -- ---- prepared tables: leads and positions
 
 module _ (vs : List Schema) (s : List ℕ) (r : Reads (read_tables Form.prepared vs s)) where
@@ -206,6 +235,56 @@ module _ (form : Form) (node : List ℕ → Read Schema) (s : List ℕ) where
 
     pub enum-spans : (n : ℕ) → Spans (read_symbols s) s n → Spans (read_formed form node 12 s) s n
     enum-spans n w = spans-eq _ _ s n (enum-content form node s) (spans-map _ (read_symbols s) s n w)
+
+  module _ (r : Reads (read_formed form node 13 s)) where
+    pub fixed-spans : Spans (read_formed form node 13 s) s 2
+    unfolding read_formed
+    fixed-spans = spans-map Schema.Fixed (read_number 2 s) s 2 (number-spans 2 s (reads_first (read_number 2 s) _ r))
+
+  module _ (r : Reads (read_formed form node 25 s)) where
+    pub duration-spans : Spans (read_formed form node 25 s) s 2
+    unfolding read_formed
+    duration-spans = spans-map Schema.Duration (read_number 2 s) s 2 (number-spans 2 s (reads_first (read_number 2 s) _ r))
+
+  -- precision, scale and size
+  module _ (r : Reads (read_formed form node 14 s)) where
+    precision-spans : Spans (read_number 4 s) s 4
+    unfolding read_formed
+    precision-spans = number-spans 4 s (three-first (read_number 4 s) (read_number 4) (read_option (read_number 2)) (λ p c n. Schema.Decimal p c n) s r)
+
+    scale-spans : Spans (read_number 4 (drop 4 s)) (drop 4 s) 4
+    unfolding read_formed
+    scale-spans = number-spans 4 (drop 4 s) (three-second (read_number 4 s) (read_number 4) (read_option (read_number 2)) (λ p c n. Schema.Decimal p c n) s r 4 precision-spans)
+
+    pub decimal-size : Reads (read_option (read_number 2) (drop 8 s))
+    unfolding read_formed
+    decimal-size = three_third (read_number 4 s) (read_number 4) (read_option (read_number 2)) (λ p c n. Schema.Decimal p c n) s r 4 precision-spans 4 scale-spans
+
+    pub decimal-spans : (n : ℕ) → Spans (read_option (read_number 2) (drop 8 s)) (drop 8 s) n → Spans (read_formed form node 14 s) s (8 + n)
+    unfolding read_formed
+    decimal-spans n w = three-spans (read_number 4 s) (read_number 4) (read_option (read_number 2)) (λ p c n. Schema.Decimal p c n) s r 4 precision-spans 4 scale-spans n w
+
+    pub decimal-long : 8 ≤ length s
+    decimal-long = omega (arith, spans-le _ _ _ precision-spans, spans-le _ _ _ scale-spans, length-drop 4 s)
+
+  module _ (r : Reads (read_formed form node 15 s)) where
+    pub uuid_known : Reads (read_uuid_form s)
+    unfolding read_formed
+    uuid_known = reads_first (read_uuid_form s) _ r
+
+    pub uuid-spans : (n : ℕ) → Spans (read_uuid_form s) s n → Spans (read_formed form node 15 s) s n
+    unfolding read_formed
+    uuid-spans n w = spans-map Schema.Uuid (read_uuid_form s) s n w
+
+  -- a kind with no content; none is past Duration
+  module _ (k : ℕ) (r : Reads (read_formed form node k s)) where
+    pub plain-spans : (7 < k → 15 < k) → (k ≡ 25 → ⊥) → Spans (read_formed form node k s) s 0
+    plain-spans h f = go (leb k 7) (leb k 25) refl refl
+      where
+        go : (a b : Bool) → leb k 7 ≡ a → leb k 25 ≡ b → Spans (read_formed form node k s) s 0
+        go true b e g = spans-some _ s 0 (Schema.Plain k) (omega arith) (plain-low form node s k (omega (arith, leb-true k 7 e)))
+        go false true e g = spans-some _ s 0 (Schema.Plain k) (omega arith) (plain-high form node s k (h (leb-false k 7 e)) (omega (arith, leb-true k 25 g, f)))
+        go false false e g = absurd (not-reads _ (kind_past form node s k (leb-false k 25 g)) r)
 
 module _ (node : List ℕ → Read Schema) (s : List ℕ) (r : Reads (read_field node s)) where
   pub field-text : Reads (read_text s)

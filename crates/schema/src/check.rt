@@ -15,6 +15,7 @@ use schema_parts::{leaf_check, tables_check};
 use text::text_len;
 
 // The schema node at the front of a part.
+#[inline]
 #[cycle(checking)]
 pub fn schema_check(s: &[u8], depth: usize) -> Option<Checked>
     ensures { Checks schema_sound (read_schema depth s.now) s.now result }
@@ -36,6 +37,8 @@ pub fn schema_check(s: &[u8], depth: usize) -> Option<Checked>
     })
 }
 
+// What stands behind the kind byte. Not inlined, so that its callers have the test for a node without content at hand.
+#[inline(never)]
 #[cycle(checking)]
 fn content_check(s: &[u8], kind: u8, depth: usize) -> Option<Checked>
     ensures { Checks schema_sound (read_schema_content (read_schema depth) kind s.now) s.now result }

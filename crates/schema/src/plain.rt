@@ -6,12 +6,11 @@ ghost use Rattle.frame.specs.Kind;
 ghost use Rattle.frame.specs.Tree.{Schema};
 ghost use Rattle.frame.specs.Readers.{read_list, read_option};
 ghost use Rattle.frame.specs.ValueFrame.{read_value};
-ghost use Rattle.frame.specs.SchemaFrame.{Form, bare, read_lead, read_tables, read_symbols, read_schema_content, read_schema};
+ghost use Rattle.frame.specs.SchemaFrame.{Form, bare, read_lead, read_tables, read_symbols, read_uuid_form, read_schema_content, read_schema};
 ghost use Rattle.frame.specs.Checks.{Spans};
 
 use frame::{kind, texts_len};
 use number::read2;
-use schema_parts::leaf_check;
 use text::content;
 use value::value_len;
 
@@ -55,14 +54,34 @@ pub fn enum_skip(s: &[u8]) -> usize
     a + option_text_skip(&s[a..])
 }
 
-// The content of a kind without child nodes or texts: its check reads a few bytes.
+// 00, or 01 and a size.
+fn option_size_skip(s: &[u8]) -> usize
+    requires { Reads (read_option (read_number 2) s.now) }
+    ensures { Spans (read_option (read_number 2) s.now) s.now result }
+{
+    if s[0] == 0 { 1 } else { 3 }
+}
+
+// The form of a UUID, and the size of a fixed one.
+fn uuid_skip(s: &[u8]) -> usize
+    requires { Reads (read_uuid_form s.now) }
+    ensures { Spans (read_uuid_form s.now) s.now result }
+{
+    if s[0] == 2 { 3 } else { 1 }
+}
+
+// The content of a kind without child nodes.
 pub fn leaf_skip(s: &[u8], kind: u8) -> usize
     requires { (Kind.Array ≤ kind → Kind.Record < kind) × Reads (read_schema_content (read_schema 0) kind s.now) }
     ensures { Spans (read_schema_content (read_schema 0) kind s.now) s.now result }
 {
-    match leaf_check(s, kind) {
-        Some(content) => content.len,
-        None => 0,
+    match kind {
+        kind::ENUM => enum_skip(s),
+        kind::FIXED => 2,
+        kind::DECIMAL => 8 + option_size_skip(&s[8..]),
+        kind::UUID => uuid_skip(s),
+        kind::DURATION => 2,
+        _ => 0,
     }
 }
 

@@ -6,12 +6,13 @@ ghost use Rattle.frame.specs.Readers.{read_list};
 ghost use Rattle.frame.specs.SchemaFrame.{read_field, read_schema_content, read_schema};
 ghost use Rattle.frame.specs.Checks.{Spans};
 
-use crate::plain::{default_skip, enum_skip, is_bare, leaf_skip, tables_skip};
+use crate::plain::{default_skip, is_bare, leaf_skip, tables_skip};
 use frame::kind;
 use number::read2;
 use text::content;
 
 // The length of a schema node.
+#[inline]
 #[cycle(skipping)]
 pub fn schema_len(s: &[u8], depth: usize) -> usize
     requires { Reads (read_schema depth s.now) }
@@ -24,6 +25,8 @@ pub fn schema_len(s: &[u8], depth: usize) -> usize
     1 + content_skip(&s[1..], kind, depth - 1)
 }
 
+// What stands behind the kind byte. Not inlined, so that its callers have the test for a node without content at hand.
+#[inline(never)]
 #[cycle(skipping)]
 fn content_skip(s: &[u8], kind: u8, depth: usize) -> usize
     requires { Reads (read_schema_content (read_schema depth) kind s.now) }
@@ -33,7 +36,6 @@ fn content_skip(s: &[u8], kind: u8, depth: usize) -> usize
         kind::ARRAY | kind::MAP => schema_len(s, depth),
         kind::UNION => union_skip(s, depth),
         kind::RECORD => fields_skip(s, depth),
-        kind::ENUM => enum_skip(s),
         _ => leaf_skip(s, kind),
     }
 }

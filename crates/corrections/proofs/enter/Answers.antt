@@ -6,7 +6,7 @@ use Rattle.corrections.proofs.EnterLaws.{below_next, entered-last, place-below, 
 use Rattle.corrections.proofs.enter.Goals as goal
 
 pub place_of-k-requires : goal.place_of-k-requires
-place_of-k-requires c = (c.requires.0 c.args.i (omega arith), placed_below _ _ _ _ c.requires.0 (below_next _ _ c.requires.4))
+place_of-k-requires c = (c.requires.0 c.args.i (omega arith), placed_below _ _ _ _ _ c.requires.0 (below_next _ _ c.requires.4))
 
 pub returns-then-k-count : goal.returns-then-k-count
 returns-then-k-count c = entered-last c.args.input.now c.args.table.now c.args.out.now _ _ _ c.requires.3 c.requires.2 c.requires.1 c.requires.4 c.place_of-k.ensures c.if-k-count.true

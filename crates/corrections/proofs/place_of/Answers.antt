@@ -9,16 +9,13 @@ pub loop-k-init : goal.loop-k-init
 loop-k-init c = passed_none _ _ _ _
 
 pub same_sail-requires : goal.same_sail-requires
-same_sail-requires c = (c.requires.0.stands, (placed_at _ _ _ _ c.requires.1 c.loop-k-test.true).stands)
+same_sail-requires c = (c.requires.0, placed_at _ _ _ _ _ c.requires.1 c.loop-k-test.true)
 
 pub returns-then-same_sail : goal.returns-then-same_sail
 returns-then-same_sail c = passed_here _ _ _ _ _ c.loop-k.invariant c.loop-k-test.true (sym c.same_sail.ensures ∙ c.if-same_sail.true)
 
 pub loop-k-preserved : goal.loop-k-preserved
 loop-k-preserved c = passed-next _ _ _ _ _ c.loop-k.invariant c.loop-k-test.true (sym c.same_sail.ensures ∙ c.if-same_sail.false)
-
-pub bounds-table-named : goal.bounds-table-named
-bounds-table-named c = (placed_at _ _ _ _ c.requires.1 c.loop-k-test.true).there
 
 pub returns : goal.returns
 returns c = let e : length c.args.named.now ≡ c.loop-k.k = omega arith in e ∙ passed-all _ _ _ _ _ c.loop-k.invariant c.loop-k-test.false

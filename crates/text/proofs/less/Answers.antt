@@ -1,6 +1,7 @@
 -- `text::less` meets its contract.
-use Rattle.text.proofs.TextLaws.{less-tested}
+use mathlib.Core.Path.{◌∙◌}
+use Rattle.text.proofs.TextLaws.{less-compared}
 use Rattle.text.proofs.less.Goals as goal
 
 pub returns : goal.returns
-returns c = less-tested _ _ _ c.lt.ensures
+returns c = c.is_lt.ensures ∙ less-compared _ _ _ c.cmp.ensures

@@ -10,7 +10,7 @@ use Rattle.frame.proofs.Reading.{reads-eq}
 use Rattle.frame.proofs.Measuring.{spans-le, spans-eq}
 use Rattle.frame.proofs.Counting.{Walking, reads-list, walking_start, walking-first, walking-step, walking-end}
 use Rattle.frame.proofs.SchemaNodes.{schema-there}
-use Rattle.schema.proofs.Skipping.{text-held, leaf-content, child-known, child-spans, record-known, record-spans, enum_known, enum-spans, union-variants, union-tables, union-spans, field-text, field-default, field-schema, field-spans, known-content, bare-spans, schema-spans}
+use Rattle.schema.proofs.Skipping.{text-held, leaf-content, child-known, child-spans, record-known, record-spans, union-variants, union-tables, union-spans, field-text, field-default, field-schema, field-spans, known-content, bare-spans, schema-spans}
 use borrow.Author.Rules.{part_to_end}
 use Rattle.schema.proofs.skip.+skipping.Goals as goal
 
@@ -25,12 +25,6 @@ content_skip-fields_skip-requires t c = let k : c.args.kind ≡ 11 = omega arith
 
 pub content_skip-returns-in-11 : goal.content_skip-returns-in-11
 content_skip-returns-in-11 t c = let k : c.args.kind ≡ 11 = omega arith in rw k (record-spans _ _ _ (rw k at c.requires) _ c.fields_skip.ensures)
-
-pub content_skip-enum_skip-requires : goal.content_skip-enum_skip-requires
-content_skip-enum_skip-requires t c = let k : c.args.kind ≡ 12 = omega arith in enum_known _ _ _ (rw k at c.requires)
-
-pub content_skip-returns-in-12 : goal.content_skip-returns-in-12
-content_skip-returns-in-12 t c = let k : c.args.kind ≡ 12 = omega arith in rw k (enum-spans _ _ _ (rw k at c.requires) _ c.enum_skip.ensures)
 
 pub content_skip-leaf_skip-requires : goal.content_skip-leaf_skip-requires
 content_skip-leaf_skip-requires t c = ((λ h. omega arith), reads-eq _ _ (leaf-content _ _ _ _ _ _ (λ h. omega arith)) c.requires)
