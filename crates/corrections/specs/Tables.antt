@@ -1,4 +1,4 @@
--- What the tables of the entry say: where each frame's sail stands in the input, its seq, and the sail's hash.
+-- What the tables of the entry say: where each frame's sail stands in the input, the frame's seq, and the sail's hash.
 use Rattle.std.specs.Prelude.{ℕ, zero, suc, ◌-◌, ◌≤◌, ◌<◌, ◌≡◌, List, [], ◌∷◌, ◌++◌, map, Bool, true, false, length, get_or, take, drop}
 use Rattle.std.proofs.Math.Option.{Option, none, some}
 use Rattle.text.specs.Text.{Text}

@@ -37,7 +37,8 @@ pub fn schema_check(s: &[u8], depth: usize) -> Option<Checked>
     })
 }
 
-// What stands behind the kind byte. Not inlined, so that its callers have the test for a node without content at hand.
+// What stands behind the kind byte. Not inlined, so that `schema_check` is short enough to be inlined where it is called, with its
+// test for a node without content.
 #[inline(never)]
 #[cycle(checking)]
 fn content_check(s: &[u8], kind: u8, depth: usize) -> Option<Checked>

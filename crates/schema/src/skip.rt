@@ -25,7 +25,8 @@ pub fn schema_len(s: &[u8], depth: usize) -> usize
     1 + content_skip(&s[1..], kind, depth - 1)
 }
 
-// What stands behind the kind byte. Not inlined, so that its callers have the test for a node without content at hand.
+// What stands behind the kind byte. Not inlined, so that `schema_len` is short enough to be inlined where it is called, with its
+// test for a node without content.
 #[inline(never)]
 #[cycle(skipping)]
 fn content_skip(s: &[u8], kind: u8, depth: usize) -> usize
